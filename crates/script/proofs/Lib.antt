@@ -1,0 +1,5 @@
+mod Reading
+mod Shapes
+mod Lines
+mod Files
+mod Unique

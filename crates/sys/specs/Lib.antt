@@ -1,0 +1,3 @@
+pub mod Timeout
+pub mod Table
+pub mod Modes
