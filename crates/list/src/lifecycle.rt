@@ -1,6 +1,10 @@
 // The sources that want hooks, by token.
+ghost use mathlib.Core.Bool.{not};
 ghost use Prim.Native.Nat.{_≤_};
+ghost use Rattle.token.specs.Key.{sameSource};
 ghost use Rattle.std.specs.Of.Vec.{vec-cap, vec-len};
+use retain::Keep;
+use retain::retain;
 use std::alloc::AllocError;
 use std::alloc::Global;
 use token::Error;
@@ -11,6 +15,20 @@ pub struct Lifecycle {
     entries: Vec<Token>,
     ghost room: { 128 ≤ vec-cap entries },
     ghost few: { vec-len entries ≤ 128 },
+}
+
+// Every entry but those of a token's source.
+#[derive(Drop)]
+struct OtherThan {
+    token: Token,
+}
+
+impl Keep<Token> for OtherThan as KeepOthers {
+    ghost passes = { λ s t. not (sameSource t (s .token)) };
+
+    fn keeps(&self, entry: Token) -> bool {
+        !entry.same_source_as(self.token)
+    }
 }
 
 impl Lifecycle {
@@ -41,14 +59,6 @@ impl Lifecycle {
 
     // Drops the entries of the token's source.
     pub fn drop_all(&mut self, token: Token) {
-        let mut count = 0;
-        for i in 0..self.entries.len() {
-            let entry = self.entries[i];
-            if !entry.same_source_as(token) {
-                self.entries[count] = entry;
-                count += 1;
-            }
-        }
-        self.entries.truncate(count);
+        retain(&mut self.entries, &OtherThan { token });
     }
 }

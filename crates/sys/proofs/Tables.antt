@@ -15,10 +15,6 @@ use Rattle.std.specs.declared.option.Option.the-variants.{Some, None}
 use Rattle.sys.specs.declared.levels.Line.{Line}
 use Rattle.sys.specs.Table.{hits, dropped, lineOf, fullFor}
 
--- a line that a drop leaves
-abbrev pub stays : ℕ → Option ℕ → Line → Bool
-stays f k l = not (hits f k l)
-
 -- the search goes past the line at i
 pub find-more : (k : ℕ) (ls : List Line) (i : ℕ) (d : Line) → i < length ls → (getD ls i d .key ≡ k → ⊥)
     → lineOf k ls ≡ lineOf k (drop i ls) → lineOf k ls ≡ lineOf k (drop (i + 1) ls)

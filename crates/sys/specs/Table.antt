@@ -17,8 +17,11 @@ abbrev pub hits : ℕ → Option ℕ → Line → Bool
 hits f None l = eqb (l .file) f
 hits f (Some k) l = cond (eqb (l .file) f) true (eqb (l .key) k)
 
+abbrev pub stays : ℕ → Option ℕ → Line → Bool
+stays f k l = not (hits f k l)
+
 abbrev pub dropped : ℕ → Option ℕ → List Line → List Line
-dropped f k ls = kept-by (λ l. not (hits f k l)) ls
+dropped f k ls = kept-by (stays f k) ls
 
 -- the key's line
 abbrev pub lineOf : ℕ → List Line → Option Line

@@ -6,21 +6,31 @@ ghost use Prim.Native.Nat.{_≤_};
 ghost use Rattle.std.specs.Of.Vec.{vec-cap, vec-items, vec-len};
 ghost use Rattle.std.specs.Vec.{made};
 ghost use Rattle.poller.specs.declared.entry.Mode.the-variants.{Level};
-ghost use Rattle.sys.specs.Table.{dropped, entered, fullFor, hits, lineOf};
+ghost use Rattle.sys.specs.Table.{dropped, entered, fullFor, lineOf, stays};
 use crate::levels::Levels;
 use crate::levels::Line;
 use poller::Mode;
 use poller::ModePartialEq;
+use retain::Keep;
+use retain::retain;
 use std::alloc::AllocError;
 use std::alloc::Global;
 
-// Whether the line is the file's or, where one is given, the key's.
-fn hit(line: Line, file: u32, key: Option<u64>) -> bool
-    ensures { λ r. ⌜ r ≡ hits file key line ⌝ }
-{
-    match key {
-        None => line.file == file,
-        Some(key) => line.file == file || line.key == key,
+// Every line but those of a file and, where one is given, of a key.
+#[derive(Drop)]
+struct OtherThan {
+    file: u32,
+    key: Option<u64>,
+}
+
+impl Keep<Line> for OtherThan as KeepOthers {
+    ghost passes = { λ s l. stays (s .file) (s .key) l };
+
+    fn keeps(&self, line: Line) -> bool {
+        match self.key {
+            None => line.file != self.file,
+            Some(key) => line.file != self.file && line.key != key,
+        }
     }
 }
 
@@ -55,15 +65,7 @@ impl Levels {
     pub fn drop_lines(&mut self, file: u32, key: Option<u64>)
         ensures { λ _. ⌜ vec-items (now (self .exit) .lines) ≡ dropped file key (vec-items (now (self .entry) .lines)) ⌝ }
     {
-        let mut count = 0;
-        for i in 0..self.lines.len() {
-            let line = self.lines[i];
-            if !hit(line, file, key) {
-                self.lines[count] = line;
-                count += 1;
-            }
-        }
-        self.lines.truncate(count);
+        retain(&mut self.lines, &OtherThan { file, key });
     }
 
     // The lines of the file and the key go, and the key stands for the file if the mode is Level.

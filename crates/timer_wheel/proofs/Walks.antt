@@ -8,13 +8,9 @@ use lib.ListN.{length, take, drop, getD}
 use Rattle.std.specs.Holes.{inserted}
 use Rattle.std.specs.shelf.Lists.{kept-by}
 use Rattle.std.proofs.shelf.Lists.{take-more, drop-more, drop-all}
-use Rattle.std.proofs.shelf.Tests.{cond-true, cond-false, lt-ltb, le-ltb, eq-eqb, ne-eqb}
+use Rattle.std.proofs.shelf.Tests.{cond-true, cond-false, lt-ltb, le-ltb}
 use Rattle.timer_wheel.specs.declared.timeout.TimeoutData.{TimeoutData}
-use Rattle.timer_wheel.specs.Entries.{enter, without}
-
--- an entry that a cancel of the counter leaves
-abbrev pub stays : ℕ → TimeoutData → Bool
-stays k x = not (eqb (x .counter) k)
+use Rattle.timer_wheel.specs.Entries.{enter, stays, without}
 
 pub without-kept : (k : ℕ) (xs : List TimeoutData) → kept-by (stays k) xs ≡ without k xs
 without-kept k [] = refl
@@ -53,12 +49,6 @@ place-last x xs i n e ge inv =
     let none : drop i xs ≡ [] = drop-all i xs ge in
     let P : ℕ → Type 0 = λ m. inserted xs m x ≡ enter x xs in
     subst P e (sym (inv ∙ ap (λ (r : List TimeoutData). take i xs ++ r) (ap (enter x) none ∙ ap (λ (r : List TimeoutData). x ∷ r) (sym none))))
-
-pub goes : (k : ℕ) (x : TimeoutData) → x .counter ≡ k → stays k x ≡ false
-goes k x e = ap not (eq-eqb (x .counter) k e)
-
-pub keeps : (k : ℕ) (x : TimeoutData) → (x .counter ≡ k → ⊥) → stays k x ≡ true
-keeps k x ne = ap not (ne-eqb (x .counter) k ne)
 
 -- an insertion that was not refused, at the place that was found
 pub joined : (x : TimeoutData) (xs zs ys : List TimeoutData) (n : ℕ) (b : Bool) → zs ≡ xs → inserted zs n x ≡ enter x zs → b ≡ true

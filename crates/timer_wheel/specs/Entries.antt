@@ -1,5 +1,5 @@
 -- The list of entries: the earliest first, equal deadlines in order of entry.
-use mathlib.Core.Bool.{cond}
+use mathlib.Core.Bool.{Bool, cond, not}
 use mathlib.Core.List.{List, [], _∷_}
 use Prim.Native.Nat.{ℕ, suc, _≤_, _<_}
 use lib.Dec.{eqb, leb, ltb}
@@ -20,6 +20,10 @@ enter x (y ∷ ys) = cond (ltb (x .deadline) (y .deadline)) (x ∷ y ∷ ys) (y 
 abbrev pub earliest : List TimeoutData → Option TimeoutData
 earliest [] = None
 earliest (x ∷ xs) = Some x
+
+-- an entry that a cancel of the counter leaves
+abbrev pub stays : ℕ → TimeoutData → Bool
+stays k x = not (eqb (x .counter) k)
 
 -- all entries with the counter go
 abbrev pub without : ℕ → List TimeoutData → List TimeoutData

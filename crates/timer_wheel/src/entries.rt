@@ -4,8 +4,10 @@ ghost use Prim.Native.Nat.{_<_, _≤_};
 ghost use lib.ListN.{drop, length};
 ghost use Rattle.std.specs.Holes.{inserted};
 ghost use Rattle.std.specs.Of.Vec.{vec-cap, vec-items, vec-len};
-ghost use Rattle.timer_wheel.specs.Entries.{Rising, earliest, enter, without};
+ghost use Rattle.timer_wheel.specs.Entries.{Rising, earliest, enter, stays, without};
 use crate::timeout::TimeoutData;
+use retain::Keep;
+use retain::retain;
 
 pub(crate) fn first(entries: &[TimeoutData]) -> Option<TimeoutData>
     ensures { λ r. ⌜ r ≡ earliest (now (entries .entry)) ⌝ }
@@ -40,6 +42,20 @@ pub(crate) fn drop_first(entries: &mut Vec<TimeoutData>)
     entries.remove(0);
 }
 
+// Every entry but those with a counter.
+#[derive(Drop)]
+struct OtherThan {
+    counter: u32,
+}
+
+impl Keep<TimeoutData> for OtherThan as KeepOthers {
+    ghost passes = { λ s x. stays (s .counter) x };
+
+    fn keeps(&self, item: TimeoutData) -> bool {
+        item.counter != self.counter
+    }
+}
+
 // Drops every entry with the counter; the others keep their order.
 pub(crate) fn drop_all(entries: &mut Vec<TimeoutData>, counter: u32)
     requires { ⌜ Rising (vec-items (now entries)) ⌝ }
@@ -48,13 +64,5 @@ pub(crate) fn drop_all(entries: &mut Vec<TimeoutData>, counter: u32)
     ensures room { λ _. ⌜ vec-cap (now (entries .exit)) ≡ vec-cap (now (entries .entry)) ⌝ }
     ensures fewer { λ _. ⌜ vec-len (now (entries .exit)) ≤ vec-len (now (entries .entry)) ⌝ }
 {
-    let mut count = 0;
-    for i in 0..entries.len() {
-        let entry = entries[i];
-        if entry.counter != counter {
-            entries[count] = entry;
-            count += 1;
-        }
-    }
-    entries.truncate(count);
+    retain(entries, &OtherThan { counter });
 }
