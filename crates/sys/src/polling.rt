@@ -169,10 +169,14 @@ impl<P: Poller, C: Clock> Poll<P, C> {
         ensures { λ r. ⌜ TimedBy (C·Clock .reads) given (firstDeadline (wheelOf (now (self .entry) .timers))) (now (self .entry) .clock) (now (self .exit) .clock) r ⌝ }
     {
         match (given, self.timers.next_deadline()) {
-            (Some(timeout), Some(deadline)) => Some(timeout.min(deadline.saturating_sub(
-                self.clock.now(),
-            ))),
-            (None, Some(deadline)) => Some(deadline.saturating_sub(self.clock.now())),
+            (Some(timeout), Some(deadline)) => {
+                let clock = self.clock.now();
+                Some(timeout.min(deadline.saturating_sub(clock)))
+            }
+            (None, Some(deadline)) => {
+                let clock = self.clock.now();
+                Some(deadline.saturating_sub(clock))
+            }
             (given, None) => given,
         }
     }

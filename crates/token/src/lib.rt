@@ -10,3 +10,6 @@ pub use factory::TokenFactory;
 pub use token::Token;
 pub use token::TokenDebug;
 pub use token::TokenPartialEq;
+
+#[cfg(test)]
+mod tests;
