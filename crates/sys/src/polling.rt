@@ -1,9 +1,8 @@
 // The polling system's calls.
-ghost use mathlib.Core.Bool.{true};
 ghost use mathlib.Core.Path.{_≡_};
 ghost use Prim.Native.Nat.{_≤_};
 ghost use Rattle.std.specs.Of.Vec.{vec-len};
-ghost use Rattle.std.specs.Results.{isOk};
+ghost use Rattle.token.specs.Refusal.{Done, outcome};
 ghost use Rattle.timer_wheel.specs.Wheel.{firstDeadline, wheelOf};
 ghost use Rattle.sys.specs.Modes.{modeBelow, tableOf};
 ghost use Rattle.sys.specs.Timeout.{TimedBy};
@@ -109,7 +108,7 @@ impl<P: Poller, C: Clock> Poll<P, C> {
 
     // The mode in which a registration goes down to the poller.
     fn mode_below(&self, key: u64, mode: Mode) -> Result<Mode, Error>
-        ensures { λ r. ⌜ r ≡ modeBelow (tableOf (now (self .entry) .«level_triggered»)) key mode ⌝ }
+        ensures { λ r. ⌜ outcome r ≡ modeBelow (tableOf (now (self .entry) .«level_triggered»)) key mode ⌝ }
     {
         match &self.level_triggered {
             None => Ok(mode),
@@ -123,7 +122,7 @@ impl<P: Poller, C: Clock> Poll<P, C> {
 
     // The table after an accepted registration.
     fn note(&mut self, line: Line, mode: Mode)
-        requires { ⌜ isOk (modeBelow (tableOf (now self .«level_triggered»)) (line .key) mode) ≡ true ⌝ }
+        requires { ⌜ Done (modeBelow (tableOf (now self .«level_triggered»)) (line .key) mode) ⌝ }
     {
         if let Some(levels) = &mut self.level_triggered {
             levels.enter(line, mode);

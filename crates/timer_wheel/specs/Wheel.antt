@@ -7,11 +7,8 @@ use lib.ListN.{length}
 use Rattle.std.specs.Of.Vec.{vec-items}
 use Rattle.std.specs.Options.{mapped}
 use Rattle.std.specs.declared.option.Option.{Option}
-use Rattle.std.specs.declared.result.Result.{Result}
-use Rattle.std.specs.declared.result.Result.the-variants.{Ok, Err}
 use Rattle.token.specs.declared.token.Token.{Token}
-use Rattle.token.specs.declared.error.Error.{Error}
-use Rattle.token.specs.declared.error.Error.the-variants.{TimersFull, TimersSpent}
+use Rattle.token.specs.Refusal.{Outcome, done, refusal}
 use Rattle.timer_wheel.specs.declared.timeout.TimeoutData.{TimeoutData}
 use Rattle.timer_wheel.specs.declared.wheel.TimerWheel.{TimerWheel}
 use Rattle.timer_wheel.specs.Entries.{enter, earliest, cancelled, expired}
@@ -28,16 +25,16 @@ abbrev pub empty : Wheel
 empty = record { timers = []; next = 0 }
 
 -- 256 entries are the most, and the counter 4,294,967,295 is never given out
-abbrev pub insertOf : ℕ → Token → Wheel → Result ℕ Error × Wheel
+abbrev pub insertOf : ℕ → Token → Wheel → Outcome ℕ × Wheel
 insertOf deadline token w =
-    cond (leb 256 (length (w .timers))) (Err TimersFull, w)
-    (cond (eqb (w .next) 4294967295) (Err TimersSpent, w)
-    (Ok (w .next), record { timers = enter (record { deadline = deadline; token = token; counter = w .next }) (w .timers); next = w .next + 1 }))
+    cond (leb 256 (length (w .timers))) (refusal 16, w)
+    (cond (eqb (w .next) 4294967295) (refusal 17, w)
+    (done (w .next), record { timers = enter (record { deadline = deadline; token = token; counter = w .next }) (w .timers); next = w .next + 1 }))
 
-abbrev pub reuseOf : ℕ → ℕ → Token → Wheel → Result (Unit {0}) Error × Wheel
+abbrev pub reuseOf : ℕ → ℕ → Token → Wheel → Outcome (Unit {0}) × Wheel
 reuseOf counter deadline token w =
-    cond (leb 256 (length (w .timers))) (Err TimersFull, w)
-    (Ok tt, record { timers = enter (record { deadline = deadline; token = token; counter = counter }) (w .timers); next = w .next })
+    cond (leb 256 (length (w .timers))) (refusal 16, w)
+    (done tt, record { timers = enter (record { deadline = deadline; token = token; counter = counter }) (w .timers); next = w .next })
 
 abbrev pub cancelOf : ℕ → Wheel → Wheel
 cancelOf counter w = record { timers = cancelled counter (w .timers); next = w .next }

@@ -3,6 +3,7 @@ ghost use mathlib.Core.Path.{_≡_};
 ghost use Prim.Native.Nat.{_<_};
 ghost use Rattle.std.specs.Of.Vec.{vec-items, vec-len, vec-ptr};
 ghost use Rattle.std.specs.Vec.{made};
+ghost use Rattle.token.specs.Refusal.{outcome};
 ghost use Rattle.timer_wheel.specs.Entries.{enter};
 ghost use Rattle.timer_wheel.specs.Laws.{Exact, Joins};
 ghost use Rattle.timer_wheel.specs.Wheel.{cancelOf, empty, expiredOf, firstDeadline, insertOf, reuseOf, wheelOf};
@@ -33,7 +34,7 @@ impl TimerWheel {
 
     // A full wheel is told before a spent counter.
     pub fn insert(&mut self, deadline: u64, token: Token) -> Result<u32, Error>
-        ensures is { λ r. ⌜ (r, wheelOf (now (self .exit))) ≡ insertOf deadline token (wheelOf (now (self .entry))) ⌝ }
+        ensures is { λ r. ⌜ (outcome r, wheelOf (now (self .exit))) ≡ insertOf deadline token (wheelOf (now (self .entry))) ⌝ }
         ensures joins { λ r. ⌜ made r (λ k. Joins (record { deadline = deadline; token = token; counter = k }) (wheelOf (now (self .entry)) .timers) (wheelOf (now (self .exit)) .timers)) ⌝ }
         ensures in_place { λ _. ⌜ vec-ptr (now (self .exit) .entries) ≡ vec-ptr (now (self .entry) .entries) ⌝ }
     {
@@ -55,7 +56,7 @@ impl TimerWheel {
 
     // A timer that is set again keeps its counter.
     pub fn insert_reuse(&mut self, counter: u32, deadline: u64, token: Token) -> Result<(), Error>
-        ensures is { λ r. ⌜ (r, wheelOf (now (self .exit))) ≡ reuseOf counter deadline token (wheelOf (now (self .entry))) ⌝ }
+        ensures is { λ r. ⌜ (outcome r, wheelOf (now (self .exit))) ≡ reuseOf counter deadline token (wheelOf (now (self .entry))) ⌝ }
         ensures joins { λ r. ⌜ made r (λ _. Joins (record { deadline = deadline; token = token; counter = counter }) (wheelOf (now (self .entry)) .timers) (wheelOf (now (self .exit)) .timers)) ⌝ }
         ensures in_place { λ _. ⌜ vec-ptr (now (self .exit) .entries) ≡ vec-ptr (now (self .entry) .entries) ⌝ }
     {

@@ -2,15 +2,12 @@
 use Prim.Native.Nat.{ℕ, _+_}
 use mathlib.Core.Bool.{cond}
 use lib.Dec.{ltb}
-use Rattle.std.specs.declared.result.Result.{Result}
-use Rattle.std.specs.declared.result.Result.the-variants.{Ok, Err}
 use Rattle.token.specs.declared.token.Token.{Token}
-use Rattle.token.specs.declared.error.Error.{Error}
-use Rattle.token.specs.declared.error.Error.the-variants.{SubIdsSpent}
+use Rattle.token.specs.Refusal.{Outcome, done, refusal}
 
 -- the answer of a draw, and the next sub-id after it
-abbrev pub drawOf : ℕ → ℕ → ℕ → Result Token Error × ℕ
+abbrev pub drawOf : ℕ → ℕ → ℕ → Outcome Token × ℕ
 drawOf id version next =
     cond (ltb next 65535)
-    (Ok (record { id = id; version = version; «sub_id» = next }), next + 1)
-    (Err SubIdsSpent, next)
+    (done (record { id = id; version = version; «sub_id» = next }), next + 1)
+    (refusal 8, next)

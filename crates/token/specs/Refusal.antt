@@ -1,5 +1,7 @@
--- The number of each refusal, and the code that it carries.
+-- The number of each refusal, the code that it carries, and the answer of a call by them.
 use Prim.Native.Nat.{ℕ}
+use Rattle.std.specs.declared.result.Result.{Result}
+use Rattle.std.specs.declared.result.Result.the-variants.{Ok, Err}
 use Rattle.std.specs.declared.option.Option.{Option}
 use Rattle.std.specs.declared.option.Option.the-variants.{Some, None}
 use Rattle.token.specs.declared.error.Error.{Error}
@@ -50,3 +52,21 @@ codeOf LifecycleFull = None
 codeOf SyntheticFull = None
 codeOf LevelFull = None
 codeOf NoEdge = None
+
+-- What a call answered: its value, or a refusal by its number and its code. Every promise of a refusal is put by it.
+pub data Outcome (T : Type 0) : Type 0 where
+  done : T → Outcome T
+  refused : ℕ → Option ℕ → Outcome T
+
+abbrev pub outcome : {T : Type 0} → Result T Error → Outcome T
+outcome (Ok x) = done x
+outcome (Err e) = refused (numberOf e) (codeOf e)
+
+-- a refusal that carries no code
+abbrev pub refusal : {T : Type 0} → ℕ → Outcome T
+refusal n = refused n None
+
+-- it was not refused
+abbrev pub Done : {T : Type 0} → Outcome T → Type 0
+Done (done x) = Unit {0}
+Done (refused n c) = ⊥

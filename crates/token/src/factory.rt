@@ -2,6 +2,7 @@
 ghost use mathlib.Core.Path.{_≡_};
 ghost use Prim.Native.Nat.{_≤_};
 ghost use Rattle.token.specs.Drawing.{drawOf};
+ghost use Rattle.token.specs.Refusal.{outcome};
 use crate::error::Error;
 use crate::token::Token;
 
@@ -28,7 +29,7 @@ impl TokenFactory {
 
     pub fn token(&mut self) -> Result<Token, Error>
         ensures same { λ _. ⌜ (now (self .exit) .id ≡ now (self .entry) .id) × (now (self .exit) .version ≡ now (self .entry) .version) ⌝ }
-        ensures draws { λ r. ⌜ (r, now (self .exit) .next) ≡ drawOf (now (self .entry) .id) (now (self .entry) .version) (now (self .entry) .next) ⌝ }
+        ensures draws { λ r. ⌜ (outcome r, now (self .exit) .next) ≡ drawOf (now (self .entry) .id) (now (self .entry) .version) (now (self .entry) .next) ⌝ }
     {
         if self.next == 65_535 {
             return Err(Error::SubIdsSpent);
