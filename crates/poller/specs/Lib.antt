@@ -1,1 +1,6 @@
-pub mod Told
+pub mod Register
+pub mod Meaning
+pub mod Places
+pub mod Reports
+pub mod Bench
+pub mod Line

@@ -1,3 +1,2 @@
 pub mod Timeout
-pub mod Table
-pub mod Modes
+pub mod Polling

@@ -1,10 +1,9 @@
 // The polling system: poller, level table, timers and clock behind one face.
 mod clock;
 mod event;
-mod levels;
-mod lines;
 mod poll;
-mod polling;
+mod registering;
+mod waiting;
 
 pub use clock::Clock;
 pub use clock::Environment;

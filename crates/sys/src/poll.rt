@@ -1,5 +1,5 @@
 // The polling system's type alone. Its fields are private to this crate, so that only its calls change them.
-use crate::levels::Levels;
+use levels::Levels;
 use poller::Events;
 use timer_wheel::TimerWheel;
 

@@ -1,15 +1,29 @@
+use mathlib.Core.List.{_++_}
+use mathlib.Core.Path.{refl, ap, _∙_}
 use native.Mathlib.Omega.{arith}
-use Rattle.poller.proofs.Marks.{trues-lt, trues-set}
+use Rattle.std.specs.Of.Vec.{vec-items}
+use Rattle.poller.specs.Places.{entriesOf}
+use Rattle.poller.proofs.Reporting.{event-at, disarmed-apart, told-one-shot, told-other}
 use Rattle.poller.proofs.table.Table.tell.Needs as need
 
-pub push-reserved-requires : need.push-reserved-requires
-push-reserved-requires c κs = omega (arith, c .pre .count, c .args .events .now .room, trues-lt (c .args .told .now) (c .args .i) _ (omega arith) (c .if-told-i .left))
-
-pub ghost-events : need.ghost-events
-ghost-events c = (omega (arith, c .push-reserved .ensures .capacity), (omega (arith, c .push-reserved .ensures .len, c .pre .count, trues-lt (c .args .told .now) (c .args .i) _ (omega arith) (c .if-told-i .left)), tt))
+pub ghost-self : need.ghost-self
+ghost-self c =
+    (omega arith, (omega arith, (disarmed-apart (entriesOf (c .args .self .now)) (c .args .i) (c .args .self .now .apart) _ (c .index-mut .ensures .value) (omega (arith, c .args .self .now .entries .ok .0)), tt)))
 
 pub returns-then-eq : need.returns-then-eq
-returns-then-eq c = record { count = omega (arith, c .push-reserved .ensures .len, c .pre .count, trues-set (c .args .told .now) (c .args .i) _ (omega arith) (c .if-told-i .left)) }
+returns-then-eq c =
+    record {
+      entries = λ f p. told-one-shot _ _ (c .args .self .now .apart) _ (c .index-mut .ensures .value) f _ (c .index .ensures) (c .if-eq .ensures tt) p;
+      events = λ f p. c .push-reserved .ensures .items ∙ ap (λ l. vec-items (c .args .events .now .items) ++ l) (event-at _ _ (c .args .self .now .apart) _ (c .index .ensures) f p);
+      count = c .push-reserved .ensures .len;
+      long = refl;
+    }
 
 pub returns-else-eq : need.returns-else-eq
-returns-else-eq c = record { count = omega (arith, c .push-reserved .ensures .len, c .pre .count, trues-set (c .args .told .now) (c .args .i) _ (omega arith) (c .if-told-i .left)) }
+returns-else-eq c =
+    record {
+      entries = λ f p. told-other _ _ (c .args .self .now .apart) _ (c .index .ensures) f (c .if-eq .ensures tt) p;
+      events = λ f p. c .push-reserved .ensures .items ∙ ap (λ l. vec-items (c .args .events .now .items) ++ l) (event-at _ _ (c .args .self .now .apart) _ (c .index .ensures) f p);
+      count = c .push-reserved .ensures .len;
+      long = refl;
+    }
