@@ -1,0 +1,7 @@
+// Tests of the polling system over both pollers.
+#[cfg(test)]
+mod bench;
+#[cfg(test)]
+mod lines;
+#[cfg(test)]
+mod world;
