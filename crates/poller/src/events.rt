@@ -1,6 +1,9 @@
 // The events of one wait, in memory that was reserved beforehand.
-ghost use Prim.Native.Nat.{_≤_, _<_};
-ghost use Rattle.std.specs.Of.Vec.{vec-cap, vec-len};
+ghost use Prim.Native.Nat.{_≤_};
+ghost use Rattle.std.specs.Of.Vec.{vec-cap, vec-items, vec-len};
+ghost use Rattle.std.specs.Vec.{made};
+ghost use mathlib.Core.List.{[]};
+ghost use mathlib.Core.Path.{_≡_};
 use crate::entry::Event;
 use std::alloc::AllocError;
 use std::alloc::Global;
@@ -13,7 +16,9 @@ pub struct Events {
 }
 
 impl Events {
-    pub fn new(heap: Global) -> Result<Events, AllocError> {
+    pub fn new(heap: Global) -> Result<Events, AllocError>
+        ensures { λ r. ⌜ made r (λ e. vec-items (e .items) ≡ []) ⌝ }
+    {
         let items = Vec::with_capacity(heap, 256)?;
         Ok(Events { items })
     }
