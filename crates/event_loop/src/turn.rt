@@ -20,21 +20,24 @@ impl<P: Poller, C: Clock, S: EventSource> LoopInner<P, C, S> {
         requires { ⌜ Calm (slotsOf (now self .sources)) ⌝ }
         ensures { λ _. ⌜ Calm (slotsOf (now (self .exit) .sources)) ⌝ }
     {
-        let Some(i) = self.sources.fits(event.token) else {
+        let registration = event.token.forget_sub_id();
+        let Some(i) = self.sources.fits(registration) else {
             return (Verdict::Stale, None);
         };
         let mut source = self.sources.take_out(i);
         let answer = source.process_events(&mut self.poll, event.readiness, event.token);
         let pending = mem::replace(&mut self.pending_action, PostAction::Continue);
         let fault = match answer {
-            Ok(action) => self.act(decide(action, pending), &mut source, event.token)
-                .err(),
+            Ok(action) => {
+                let action = decide(action, pending);
+                self.act(action, &mut source, registration).err()
+            }
             Err(error) => {
-                let _ = self.act(pending, &mut source, event.token);
+                let _ = self.act(pending, &mut source, registration);
                 Some(error)
             }
         };
-        self.settle(source, event.token, fault.is_some());
+        self.settle(source, registration, fault.is_some());
         (Verdict::Delivered, fault)
     }
 

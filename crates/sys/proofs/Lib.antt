@@ -1,1 +1,3 @@
 pub mod Waits
+pub mod Entries
+pub mod Locality

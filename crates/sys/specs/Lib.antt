@@ -1,2 +1,3 @@
 pub mod Timeout
 pub mod Polling
+pub mod Laws

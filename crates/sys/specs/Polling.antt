@@ -39,6 +39,19 @@ tableOf t = mapped linesOf t
 abbrev pub stateOf : {P C : Type 0} → Poll P C → State P C
 stateOf s = record { poller = s .poller; clock = s .clock; wheel = wheelOf (s .timers); lines = tableOf (s .«level_triggered») }
 
+-- a state with another poller, clock, wheel or table
+abbrev pub withPoller : {P C : Type 0} → State P C → P → State P C
+withPoller s p = record { poller = p; clock = s .clock; wheel = s .wheel; lines = s .lines }
+
+abbrev pub withClock : {P C : Type 0} → State P C → C → State P C
+withClock s c = record { poller = s .poller; clock = c; wheel = s .wheel; lines = s .lines }
+
+abbrev pub withWheel : {P C : Type 0} → State P C → Wheel → State P C
+withWheel s w = record { poller = s .poller; clock = s .clock; wheel = w; lines = s .lines }
+
+abbrev pub withLines : {P C : Type 0} → State P C → Option (List Line) → State P C
+withLines s ls = record { poller = s .poller; clock = s .clock; wheel = s .wheel; lines = ls }
+
 -- With a table the poller does not know level mode: Edge is refused, and all else goes down as OneShot.
 abbrev pub modeBelow : Option (List Line) → ℕ → Mode → Outcome Mode
 modeBelow None k m = done m
@@ -69,7 +82,7 @@ module _ {P C : Type 0} (asks : P → Request → Answer → P → Type 0) where
   Sent (refused n c) l m s r s′ = (r ≡ refused n c) × (s′ ≡ s)
   Sent (done below) l m s r s′ =
       asks (s .poller) (request l below) r (s′ .poller)
-      × (s′ ≡ record { poller = s′ .poller; clock = s .clock; wheel = s .wheel; lines = linesAfter r (entered l m) (s .lines) })
+      × (s′ ≡ withLines (withPoller s (s′ .poller)) (linesAfter r (entered l m) (s .lines)))
 
   -- register, by the poller's add, and reregister, by its modify
   abbrev pub Registers : Line → Mode → State P C → Answer → State P C → Type 0
@@ -79,13 +92,13 @@ module _ {P C : Type 0} (deletes : P → ℕ → Answer → P → Type 0) where
   abbrev pub Unregisters : ℕ → State P C → Answer → State P C → Type 0
   Unregisters f s r s′ =
       deletes (s .poller) f r (s′ .poller)
-      × (s′ ≡ record { poller = s′ .poller; clock = s .clock; wheel = s .wheel; lines = linesAfter r (dropped f None) (s .lines) })
+      × (s′ ≡ withLines (withPoller s (s′ .poller)) (linesAfter r (dropped f None) (s .lines)))
 
   -- letting go of a file: one more delete, whatever it answers
   abbrev pub LetsGo : ℕ → State P C → State P C → Type 0
   LetsGo f s s′ =
       (r : Answer) × deletes (s .poller) f r (s′ .poller)
-      × (s′ ≡ record { poller = s′ .poller; clock = s .clock; wheel = s .wheel; lines = mapped (dropped f None) (s .lines) })
+      × (s′ ≡ withLines (withPoller s (s′ .poller)) (mapped (dropped f None) (s .lines)))
 
 module _ {P : Type 0} (modifies : P → Request → Answer → P → Type 0) where
   abbrev pub Goes : Answer → (P → Answer → P → Type 0) → P → Answer → P → Type 0
@@ -110,17 +123,17 @@ module _ {P C : Type 0} (modifies : P → Request → Answer → P → Type 0) (
   -- after re-arming: lost events where it failed, else the timers that are due by a fresh reading
   abbrev pub Takes : Answer → List Event → State P C → P → C → Answer → List PollEvent → State P C → Type 0
   Takes (refused n c) vs s p k r es s′ =
-      (r ≡ refused n c) × (es ≡ map polled vs) × (s′ ≡ record { poller = p; clock = k; wheel = s .wheel; lines = s .lines })
+      (r ≡ refused n c) × (es ≡ map polled vs) × (s′ ≡ withClock (withPoller s p) k)
   Takes (done u) vs s p k r es s′ =
       (now : ℕ) × reads k now (s′ .clock)
       × (r ≡ done tt)
       × (es ≡ map polled vs ++ map rung (dueBy now (s .wheel .timers)))
-      × (s′ ≡ record { poller = p; clock = s′ .clock; wheel = rest now (s .wheel); lines = s .lines })
+      × (s′ ≡ withWheel (withClock (withPoller s p) (s′ .clock)) (rest now (s .wheel)))
 
   -- after the wait
   abbrev pub Wakes : Answer → List Event → State P C → P → C → Answer → List PollEvent → State P C → Type 0
   Wakes (refused n c) vs s p k r es s′ =
-      (r ≡ refused n c) × (es ≡ []) × (s′ ≡ record { poller = p; clock = k; wheel = s .wheel; lines = s .lines })
+      (r ≡ refused n c) × (es ≡ []) × (s′ ≡ withClock (withPoller s p) k)
   Wakes (done u) vs s p k r es s′ =
       (a : Answer) × (q : P) × RearmsIn modifies (s .lines) vs p a q × Takes a vs s q k r es s′
 

@@ -1,5 +1,6 @@
 // Time, and what happens outside the loop.
 ghost use Prim.Native.Nat.{ℕ};
+ghost use mathlib.Core.Path.{_≡_};
 use poller::Poller;
 
 pub trait Clock {
@@ -12,6 +13,9 @@ pub trait Clock {
 }
 
 // What the world does to the poller's lines and the clock between two calls of the loop.
+// It leaves the poller's entries alone.
 pub trait Environment<P: Poller, C: Clock> {
-    fn arrange(&mut self, poller: &mut P, clock: &mut C);
+    fn arrange(&mut self, poller: &mut P, clock: &mut C)
+        ensures entries { λ _. ⌜ P·Poller .entries (now (poller .exit)) ≡ P·Poller .entries (now (poller .entry)) ⌝ }
+        ensures most { λ _. ⌜ P·Poller .most (now (poller .exit)) ≡ P·Poller .most (now (poller .entry)) ⌝ };
 }

@@ -9,7 +9,8 @@ ghost use Rattle.levels.specs.Table.{dropped, entered, linesOf};
 ghost use Rattle.levels.specs.declared.table.Line.{Line};
 ghost use Rattle.std.specs.Options.{mapped};
 ghost use Rattle.std.specs.declared.option.Option.the-variants.{None};
-ghost use Rattle.sys.specs.Polling.{LetsGo, Registers, State, Unregisters, modeBelow, newTable, stateOf, tableOf};
+ghost use Rattle.sys.specs.Laws.{Touches};
+ghost use Rattle.sys.specs.Polling.{LetsGo, Registers, State, Unregisters, modeBelow, newTable, stateOf, tableOf, withClock, withLines, withPoller, withWheel};
 use crate::clock::Clock;
 use crate::clock::Environment;
 use crate::poll::Poll;
@@ -50,13 +51,17 @@ impl<P: Poller, C: Clock> Poll<P, C> {
     }
 
     pub fn now(&mut self) -> u64
-        ensures { λ r. ⌜ C·Clock .reads (now (self .entry) .clock) r (now (self .exit) .clock) × (stateOf (now (self .exit)) ≡ record { poller = now (self .entry) .poller; clock = now (self .exit) .clock; wheel = stateOf (now (self .entry)) .wheel; lines = stateOf (now (self .entry)) .lines }) ⌝ }
+        ensures { λ r. ⌜ C·Clock .reads (now (self .entry) .clock) r (now (self .exit) .clock) × (stateOf (now (self .exit)) ≡ withClock (stateOf (now (self .entry))) (now (self .exit) .clock)) ⌝ }
     {
         self.clock.now()
     }
 
     // Lets the world change what the poller and the clock will say.
-    pub fn arrange<E: Environment<P, C>>(&mut self, environment: &mut E) {
+    pub fn arrange<E: Environment<P, C>>(&mut self, environment: &mut E)
+        ensures entries { λ _. ⌜ P·Poller .entries (now (self .exit) .poller) ≡ P·Poller .entries (now (self .entry) .poller) ⌝ }
+        ensures most { λ _. ⌜ P·Poller .most (now (self .exit) .poller) ≡ P·Poller .most (now (self .entry) .poller) ⌝ }
+        ensures same { λ _. ⌜ stateOf (now (self .exit)) ≡ withClock (withPoller (stateOf (now (self .entry))) (now (self .exit) .poller)) (now (self .exit) .clock) ⌝ }
+    {
         environment.arrange(&mut self.poller, &mut self.clock);
     }
 
@@ -67,17 +72,15 @@ impl<P: Poller, C: Clock> Poll<P, C> {
         mode: Mode,
         token: Token,
     ) -> Result<(), Error>
-        ensures { λ r. ⌜ Registers (P·Poller .adds) (record { key = keyOf token; file = file; interest = interest }) mode (stateOf (now (self .entry))) (outcome r) (stateOf (now (self .exit))) ⌝ }
+        ensures is { λ r. ⌜ Registers (P·Poller .adds) (record { key = keyOf token; file = file; interest = interest }) mode (stateOf (now (self .entry))) (outcome r) (stateOf (now (self .exit))) ⌝ }
+        ensures touches { λ _. ⌜ Touches file (P·Poller .entries (now (self .entry) .poller)) (stateOf (now (self .entry)) .lines) (P·Poller .entries (now (self .exit) .poller)) (stateOf (now (self .exit)) .lines) ⌝ }
     {
         let line = Line {
             key: token.key(),
             file,
             interest,
         };
-        let below = self.mode_below(line.key, mode)?;
-        self.poller.add(file, line.key, interest, below)?;
-        self.note(line, mode);
-        Ok(())
+        self.add(line, mode)
     }
 
     pub fn reregister(
@@ -87,30 +90,28 @@ impl<P: Poller, C: Clock> Poll<P, C> {
         mode: Mode,
         token: Token,
     ) -> Result<(), Error>
-        ensures { λ r. ⌜ Registers (P·Poller .modifies) (record { key = keyOf token; file = file; interest = interest }) mode (stateOf (now (self .entry))) (outcome r) (stateOf (now (self .exit))) ⌝ }
+        ensures is { λ r. ⌜ Registers (P·Poller .modifies) (record { key = keyOf token; file = file; interest = interest }) mode (stateOf (now (self .entry))) (outcome r) (stateOf (now (self .exit))) ⌝ }
+        ensures touches { λ _. ⌜ Touches file (P·Poller .entries (now (self .entry) .poller)) (stateOf (now (self .entry)) .lines) (P·Poller .entries (now (self .exit) .poller)) (stateOf (now (self .exit)) .lines) ⌝ }
     {
         let line = Line {
             key: token.key(),
             file,
             interest,
         };
-        let below = self.mode_below(line.key, mode)?;
-        self.poller.modify(file, line.key, interest, below)?;
-        self.note(line, mode);
-        Ok(())
+        self.modify(line, mode)
     }
 
     pub fn unregister(&mut self, file: u32) -> Result<(), Error>
-        ensures { λ r. ⌜ Unregisters (P·Poller .deletes) file (stateOf (now (self .entry))) (outcome r) (stateOf (now (self .exit))) ⌝ }
+        ensures is { λ r. ⌜ Unregisters (P·Poller .deletes) file (stateOf (now (self .entry))) (outcome r) (stateOf (now (self .exit))) ⌝ }
+        ensures touches { λ _. ⌜ Touches file (P·Poller .entries (now (self .entry) .poller)) (stateOf (now (self .entry)) .lines) (P·Poller .entries (now (self .exit) .poller)) (stateOf (now (self .exit)) .lines) ⌝ }
     {
-        self.poller.delete(file)?;
-        self.forget(file);
-        Ok(())
+        self.delete(file)
     }
 
     // Gives the file up: one more delete, whatever it answers.
     pub fn let_go(&mut self, file: u32)
-        ensures { λ _. ⌜ LetsGo (P·Poller .deletes) file (stateOf (now (self .entry))) (stateOf (now (self .exit))) ⌝ }
+        ensures is { λ _. ⌜ LetsGo (P·Poller .deletes) file (stateOf (now (self .entry))) (stateOf (now (self .exit))) ⌝ }
+        ensures touches { λ _. ⌜ Touches file (P·Poller .entries (now (self .entry) .poller)) (stateOf (now (self .entry)) .lines) (P·Poller .entries (now (self .exit) .poller)) (stateOf (now (self .exit)) .lines) ⌝ }
     {
         let _ = self.poller.delete(file);
         self.forget(file);
@@ -119,7 +120,7 @@ impl<P: Poller, C: Clock> Poll<P, C> {
     // Enters a timer, and answers its counter.
     pub fn insert_timer(&mut self, deadline: u64, token: Token) -> Result<u32, Error>
         ensures answer { λ r. ⌜ (outcome r, stateOf (now (self .exit)) .wheel) ≡ insertOf deadline token (stateOf (now (self .entry)) .wheel) ⌝ }
-        ensures same { λ _. ⌜ stateOf (now (self .exit)) ≡ record { poller = now (self .entry) .poller; clock = now (self .entry) .clock; wheel = stateOf (now (self .exit)) .wheel; lines = stateOf (now (self .entry)) .lines } ⌝ }
+        ensures same { λ _. ⌜ stateOf (now (self .exit)) ≡ withWheel (stateOf (now (self .entry))) (stateOf (now (self .exit)) .wheel) ⌝ }
     {
         self.timers.insert(deadline, token)
     }
@@ -127,15 +128,45 @@ impl<P: Poller, C: Clock> Poll<P, C> {
     // Enters a timer under a counter that it has already.
     pub fn reuse_timer(&mut self, counter: u32, deadline: u64, token: Token) -> Result<(), Error>
         ensures answer { λ r. ⌜ (outcome r, stateOf (now (self .exit)) .wheel) ≡ reuseOf counter deadline token (stateOf (now (self .entry)) .wheel) ⌝ }
-        ensures same { λ _. ⌜ stateOf (now (self .exit)) ≡ record { poller = now (self .entry) .poller; clock = now (self .entry) .clock; wheel = stateOf (now (self .exit)) .wheel; lines = stateOf (now (self .entry)) .lines } ⌝ }
+        ensures same { λ _. ⌜ stateOf (now (self .exit)) ≡ withWheel (stateOf (now (self .entry))) (stateOf (now (self .exit)) .wheel) ⌝ }
     {
         self.timers.insert_reuse(counter, deadline, token)
     }
 
     pub fn cancel_timer(&mut self, counter: u32)
-        ensures { λ _. ⌜ stateOf (now (self .exit)) ≡ record { poller = now (self .entry) .poller; clock = now (self .entry) .clock; wheel = cancelOf counter (stateOf (now (self .entry)) .wheel); lines = stateOf (now (self .entry)) .lines } ⌝ }
+        ensures { λ _. ⌜ stateOf (now (self .exit)) ≡ withWheel (stateOf (now (self .entry))) (cancelOf counter (stateOf (now (self .entry)) .wheel)) ⌝ }
     {
         self.timers.cancel(counter);
+    }
+
+    // Adds the line's file to the poller, and notes the line.
+    fn add(&mut self, line: Line, mode: Mode) -> Result<(), Error>
+        ensures { λ r. ⌜ Registers (P·Poller .adds) line mode (stateOf (now (self .entry))) (outcome r) (stateOf (now (self .exit))) ⌝ }
+    {
+        let below = self.mode_below(line.key, mode)?;
+        self.poller.add(line.file, line.key, line.interest, below)?;
+        self.note(line, mode);
+        Ok(())
+    }
+
+    // The same by a modify.
+    fn modify(&mut self, line: Line, mode: Mode) -> Result<(), Error>
+        ensures { λ r. ⌜ Registers (P·Poller .modifies) line mode (stateOf (now (self .entry))) (outcome r) (stateOf (now (self .exit))) ⌝ }
+    {
+        let below = self.mode_below(line.key, mode)?;
+        self.poller
+            .modify(line.file, line.key, line.interest, below)?;
+        self.note(line, mode);
+        Ok(())
+    }
+
+    // Deletes the file from the poller, and forgets its lines.
+    fn delete(&mut self, file: u32) -> Result<(), Error>
+        ensures { λ r. ⌜ Unregisters (P·Poller .deletes) file (stateOf (now (self .entry))) (outcome r) (stateOf (now (self .exit))) ⌝ }
+    {
+        self.poller.delete(file)?;
+        self.forget(file);
+        Ok(())
     }
 
     // The mode in which a registration goes down to the poller.
@@ -155,7 +186,7 @@ impl<P: Poller, C: Clock> Poll<P, C> {
     // The table after an accepted registration.
     fn note(&mut self, line: Line, mode: Mode)
         requires { ⌜ Done (modeBelow (tableOf (now self .«level_triggered»)) (line .key) mode) ⌝ }
-        ensures { λ _. ⌜ stateOf (now (self .exit)) ≡ record { poller = now (self .entry) .poller; clock = now (self .entry) .clock; wheel = stateOf (now (self .entry)) .wheel; lines = mapped (entered line mode) (stateOf (now (self .entry)) .lines) } ⌝ }
+        ensures { λ _. ⌜ stateOf (now (self .exit)) ≡ withLines (stateOf (now (self .entry))) (mapped (entered line mode) (stateOf (now (self .entry)) .lines)) ⌝ }
     {
         if let Some(levels) = &mut self.level_triggered {
             levels.enter(line, mode);
@@ -163,7 +194,7 @@ impl<P: Poller, C: Clock> Poll<P, C> {
     }
 
     fn forget(&mut self, file: u32)
-        ensures { λ _. ⌜ stateOf (now (self .exit)) ≡ record { poller = now (self .entry) .poller; clock = now (self .entry) .clock; wheel = stateOf (now (self .entry)) .wheel; lines = mapped (dropped file None) (stateOf (now (self .entry)) .lines) } ⌝ }
+        ensures { λ _. ⌜ stateOf (now (self .exit)) ≡ withLines (stateOf (now (self .entry))) (mapped (dropped file None) (stateOf (now (self .entry)) .lines)) ⌝ }
     {
         if let Some(levels) = &mut self.level_triggered {
             levels.drop_lines(file, None);

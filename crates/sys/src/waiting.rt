@@ -7,7 +7,8 @@ ghost use Rattle.token.specs.Refusal.{outcome};
 ghost use Rattle.levels.specs.Table.{linesOf};
 ghost use Rattle.timer_wheel.specs.Laws.{dueBy, rest};
 ghost use Rattle.timer_wheel.specs.Wheel.{firstDeadline, wheelOf};
-ghost use Rattle.sys.specs.Polling.{Polls, Rearms, RearmsIn, polled, rung, stateOf};
+ghost use Rattle.sys.specs.Laws.{Wakeful};
+ghost use Rattle.sys.specs.Polling.{Polls, Rearms, RearmsIn, polled, rung, stateOf, withClock, withPoller, withWheel};
 ghost use Rattle.sys.specs.Timeout.{TimedBy};
 use crate::clock::Clock;
 use crate::event::Class;
@@ -60,6 +61,13 @@ impl<P: Poller, C: Clock> Poll<P, C> {
     // Waits for events: the poller's in their order, then the timers that are due, by rising deadline.
     // Where the re-arming of one fails the wait does, and `events` has those that are lost.
     pub fn poll(&mut self, timeout: Option<u64>, events: &mut PollEvents) -> Result<(), Error>
+        ensures is { λ r. ⌜ Polls (P·Poller .modifies) (C·Clock .reads) (P·Poller .waits) timeout (stateOf (now (self .entry))) (outcome r) (vec-items (now (events .exit) .items)) (stateOf (now (self .exit))) ⌝ }
+        ensures wakeful { λ _. ⌜ Wakeful (P·Poller .entries (now (self .entry) .poller)) (stateOf (now (self .entry)) .lines) (P·Poller .entries (now (self .exit) .poller)) (stateOf (now (self .exit)) .lines) ⌝ }
+    {
+        self.wait(timeout, events)
+    }
+
+    fn wait(&mut self, timeout: Option<u64>, events: &mut PollEvents) -> Result<(), Error>
         ensures { λ r. ⌜ Polls (P·Poller .modifies) (C·Clock .reads) (P·Poller .waits) timeout (stateOf (now (self .entry))) (outcome r) (vec-items (now (events .exit) .items)) (stateOf (now (self .exit))) ⌝ }
     {
         events.items.clear();
@@ -74,7 +82,7 @@ impl<P: Poller, C: Clock> Poll<P, C> {
     // How long the wait may take: no longer than to the earliest deadline.
     fn timeout(&mut self, given: Option<u64>) -> Option<u64>
         ensures timed { λ r. ⌜ TimedBy (C·Clock .reads) given (firstDeadline (stateOf (now (self .entry)) .wheel)) (now (self .entry) .clock) (now (self .exit) .clock) r ⌝ }
-        ensures same { λ _. ⌜ stateOf (now (self .exit)) ≡ record { poller = now (self .entry) .poller; clock = now (self .exit) .clock; wheel = stateOf (now (self .entry)) .wheel; lines = stateOf (now (self .entry)) .lines } ⌝ }
+        ensures same { λ _. ⌜ stateOf (now (self .exit)) ≡ withClock (stateOf (now (self .entry))) (now (self .exit) .clock) ⌝ }
     {
         match (given, self.timers.next_deadline()) {
             (Some(timeout), Some(deadline)) => {
@@ -113,7 +121,7 @@ impl<P: Poller, C: Clock> Poll<P, C> {
     // Arms again what was reported and stands in the level table.
     fn rearm(&mut self) -> Result<(), Error>
         ensures rearms { λ r. ⌜ RearmsIn (P·Poller .modifies) (stateOf (now (self .entry)) .lines) (vec-items (now (self .entry) .events .items)) (now (self .entry) .poller) (outcome r) (now (self .exit) .poller) ⌝ }
-        ensures same { λ _. ⌜ stateOf (now (self .exit)) ≡ record { poller = now (self .exit) .poller; clock = now (self .entry) .clock; wheel = stateOf (now (self .entry)) .wheel; lines = stateOf (now (self .entry)) .lines } ⌝ }
+        ensures same { λ _. ⌜ stateOf (now (self .exit)) ≡ withPoller (stateOf (now (self .entry))) (now (self .exit) .poller) ⌝ }
     {
         match &self.level_triggered {
             None => Ok(()),
@@ -124,7 +132,7 @@ impl<P: Poller, C: Clock> Poll<P, C> {
     // Takes the timers that are due by a fresh reading of the clock.
     fn take_expired(&mut self, events: &mut PollEvents)
         requires { ⌜ vec-len (now events .items) ≤ 256 ⌝ }
-        ensures { λ _. ⌜ ((clock : ℕ) × C·Clock .reads (now (self .entry) .clock) clock (now (self .exit) .clock) × (vec-items (now (events .exit) .items) ≡ vec-items (now (events .entry) .items) ++ map rung (dueBy clock (stateOf (now (self .entry)) .wheel .timers))) × (stateOf (now (self .exit)) ≡ record { poller = now (self .entry) .poller; clock = now (self .exit) .clock; wheel = rest clock (stateOf (now (self .entry)) .wheel); lines = stateOf (now (self .entry)) .lines })) ⌝ }
+        ensures { λ _. ⌜ ((clock : ℕ) × C·Clock .reads (now (self .entry) .clock) clock (now (self .exit) .clock) × (vec-items (now (events .exit) .items) ≡ vec-items (now (events .entry) .items) ++ map rung (dueBy clock (stateOf (now (self .entry)) .wheel .timers))) × (stateOf (now (self .exit)) ≡ withWheel (withClock (stateOf (now (self .entry))) (now (self .exit) .clock)) (rest clock (stateOf (now (self .entry)) .wheel)))) ⌝ }
     {
         let clock = self.clock.now();
         take_due(&mut self.timers, clock, events);

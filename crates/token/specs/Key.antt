@@ -17,3 +17,7 @@ sameSource s t = cond (eqb (s .id) (t .id)) (eqb (s .version) (t .version)) fals
 -- version 65,535 is followed by 0
 abbrev pub nextVersion : Token → Token
 nextVersion t = record { id = t .id; version = (t .version + 1) % 2 ^ 16; «sub_id» = 0 }
+
+-- the token of the whole source, whose sub-id is 0
+abbrev pub ownSource : Token → Token
+ownSource t = record { id = t .id; version = t .version; «sub_id» = 0 }

@@ -1,6 +1,6 @@
 // A token names a slot, the version at which the slot was given out, and one registration of its source.
 ghost use mathlib.Core.Path.{_≡_};
-ghost use Rattle.token.specs.Key.{keyOf, tokenOf, sameSource, nextVersion};
+ghost use Rattle.token.specs.Key.{keyOf, nextVersion, ownSource, sameSource, tokenOf};
 
 #[derive(Clone, Copy, PartialEq, Eq, Debug)]
 pub struct Token {
@@ -44,5 +44,12 @@ impl Token {
             version: self.version.wrapping_add(1),
             sub_id: 0,
         }
+    }
+
+    // The token of the whole source.
+    pub fn forget_sub_id(self) -> Token
+        ensures { λ r. ⌜ r ≡ ownSource self ⌝ }
+    {
+        Token { sub_id: 0, ..self }
     }
 }
