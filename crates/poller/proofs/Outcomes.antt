@@ -1,5 +1,5 @@
 -- What each call of the table comes to, way by way.
-use mathlib.Core.Path.{_≡_, refl, sym, ap, _∙_}
+use mathlib.Core.Path.{_≡_, sym, ap, _∙_}
 use mathlib.Core.Bool.{Bool, true, false, cond}
 use mathlib.Core.List.{List, [], _∷_, _++_}
 use Prim.Native.Nat.{ℕ, suc, _<_, _≤_}
@@ -16,7 +16,7 @@ use Rattle.poller.specs.declared.entry.Entry.{Entry}
 use Rattle.poller.specs.Meaning.{Answer, addOf, modifyOf, deleteOf, grown, altered, lessened}
 use Rattle.poller.specs.Places.{placeOf, fateOf}
 use Rattle.poller.specs.Register.{Request, holds, distinct, changed, removed, fresh, renewed, marked}
-use Rattle.poller.proofs.Standing.{split, split-entry, set-changed, cut-removed, holds-place, distinct-changed, distinct-kept, distinct-push}
+use Rattle.poller.proofs.Standing.{split, split-entry, set-changed, cut-removed, holds-place, distinct-push}
 
 abbrev Out : Type 0
 Out = Answer × List Entry
@@ -56,9 +56,6 @@ module _ (f : ℕ) (es : List Entry) (i : ℕ) (d : distinct es ≡ true) (p : S
   pub written : set es i (g y) ≡ changed f g es
   written = let s = split f es i d (sym p) in set-changed f es i g (g y) s (ap g (is ∙ split-entry f es i y s))
 
-  pub written-apart : ((e : Entry) → g e .file ≡ e .file) → distinct (set es i (g y)) ≡ true
-  written-apart same = ap distinct written ∙ distinct-changed f g es same d
-
 module _ (es : List Entry) (q : Request) (o : Option ℕ) where
   pub modified-none : None ≡ placeOf (q .file) es → _≡_ {A = Out} (refusal 12, es) (modifyOf es q (fateOf o))
   modified-none p = sym (cond-false _ _ _ (absent (q .file) es p))
@@ -81,9 +78,6 @@ module _ (es : List Entry) (q : Request) (o : Option ℕ) where
           ∙ ap (λ (x : Entry). set es i (record { file = x .file; key = x .key; interest = x .interest; mode = x .mode; armed = true; stuck = x .stuck })) (again ∙ getD-set-same es i first z lt)
           ∙ written (q .file) es i d p (renewed q) y is
 
-      pub modified-apart : distinct (set (set es i first) i second) ≡ true
-      modified-apart = ap distinct renewing ∙ distinct-changed (q .file) (renewed q) es (λ e. refl) d
-
       pub modified-works : o ≡ None → _≡_ {A = Out} (done tt, set (set es i first) i second) (modifyOf es q (fateOf o))
       modified-works e =
           ap (λ (l : List Entry). (done tt, l)) renewing
@@ -101,9 +95,6 @@ module _ (f : ℕ) (es : List Entry) (o : Option ℕ) where
 
     gone : (ys : List Entry) → ys ≡ take i es ++ drop (suc i) es → ys ≡ removed f es
     gone ys is = is ∙ cut-removed f es i (split f es i d (sym p))
-
-    pub deleted-apart : (ys : List Entry) → ys ≡ take i es ++ drop (suc i) es → distinct ys ≡ true
-    deleted-apart ys is = ap distinct (gone ys is) ∙ distinct-kept _ es d
 
     pub deleted-works : (ys : List Entry) → ys ≡ take i es ++ drop (suc i) es → o ≡ None → _≡_ {A = Out} (done tt, ys) (deleteOf es f (fateOf o))
     deleted-works ys is e =

@@ -25,7 +25,7 @@ use Rattle.poller.specs.Meaning.{AllTell, Apart, among, told, onceTold}
 use Rattle.poller.specs.Places.{placeOf}
 use Rattle.poller.specs.Register.{entryOf, holds, distinct, changed, disarmed}
 use Rattle.poller.specs.Reports.{ripe, eventOf, eventAt, eventsOf, reportedOnce, Midst, Marks}
-use Rattle.poller.proofs.Outcomes.{written, written-apart}
+use Rattle.poller.proofs.Outcomes.{written}
 use Rattle.poller.proofs.Standing.{split, split-entry, split-found, place-at, place-map, holds-map, distinct-map}
 
 -- the entry at a place that was found
@@ -38,12 +38,6 @@ module _ (es : List Entry) (i : ℕ) (d : distinct es ≡ true) (y : Entry) (is 
 
   pub event-at : (f : ℕ) → Some i ≡ placeOf f es → eventOf y ∷ [] ≡ eventAt es f
   event-at f p = ap (λ (o : Option Entry). listOf (mapped eventOf o)) (sym (entry-at f p))
-
-  -- a write to any entry leaves the files distinct
-  pub disarmed-apart : i < length es → distinct (set es i (disarmed y)) ≡ true
-  disarmed-apart lt =
-      let here : placeOf (y .file) es ≡ Some i = ap (λ (e : Entry). placeOf (e .file) es) is ∙ place-at es i y d lt in
-      written-apart (y .file) es i d (sym here) disarmed y is (λ e. refl)
 
   one-shot : (e : Entry) (k : Mode) → k ≡ OneShot → disarmed e ≡ onceTold e k
   one-shot e OneShot q = refl

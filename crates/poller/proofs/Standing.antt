@@ -6,8 +6,8 @@ use Prim.Native.Nat.{ℕ, zero, suc, _+_, _<_}
 use native.Mathlib.Omega.{arith}
 use lib.Dec.{eqb}
 use lib.ListN.{length, getD, set, take, drop}
+use Rattle.std.specs.Holes.{removed as cutAt}
 use Rattle.std.specs.Options.{isSome, mapped}
-use Rattle.std.specs.shelf.Lists.{kept-by}
 use Rattle.std.proofs.shelf.Elements.{kept-by-append}
 use Rattle.std.proofs.shelf.Lists.{getD-at, set-at, map-append}
 use Rattle.std.proofs.shelf.Tests.{eqb-true, eqb-false, true≢false, false≢true, eq-eqb}
@@ -211,22 +211,6 @@ changed-file f g same e = at (eqb (e .file) f)
 pub distinct-changed : (f : ℕ) (g : Entry → Entry) (es : List Entry) → ((e : Entry) → g e .file ≡ e .file) → distinct es ≡ true → distinct (changed f g es) ≡ true
 distinct-changed f g es same d = distinct-map (λ (e : Entry). cond (eqb (e .file) f) (g e) e) (changed-file f g same) es ∙ d
 
-holds-kept : (p : Entry → Bool) (f : ℕ) (es : List Entry) → holds f es ≡ false → holds f (kept-by p es) ≡ false
-holds-kept p f [] h = refl
-holds-kept p f (e ∷ es) h = let u = unlike f e es (eqb (e .file) f) h in at (p e) (u .0) (holds-kept p f es (u .1))
-  where
-    at : (b : Bool) → eqb (e .file) f ≡ false → holds f (kept-by p es) ≡ false → holds f (cond b (e ∷ kept-by p es) (kept-by p es)) ≡ false
-    at true u rest = ap (λ (b : Bool). isSome (cond b (Some e) (entryOf f (kept-by p es)))) u ∙ rest
-    at false u rest = rest
-
-pub distinct-kept : (p : Entry → Bool) (es : List Entry) → distinct es ≡ true → distinct (kept-by p es) ≡ true
-distinct-kept p [] d = refl
-distinct-kept p (e ∷ es) d = at (p e) (distinct-kept p es (distinct-tail (holds (e .file) es) (distinct es) d))
-  where
-    at : (b : Bool) → distinct (kept-by p es) ≡ true → distinct (cond b (e ∷ kept-by p es) (kept-by p es)) ≡ true
-    at true q = ap (λ (b : Bool). cond b false (distinct (kept-by p es))) (holds-kept p (e .file) es (distinct-head (holds (e .file) es) (distinct es) d)) ∙ q
-    at false q = q
-
 -- a newcomer at the end
 pub distinct-push : (es : List Entry) (x : Entry) → holds (x .file) es ≡ false → distinct es ≡ true → distinct (es ++ x ∷ []) ≡ true
 distinct-push [] x h d = refl
@@ -245,3 +229,35 @@ distinct-push (e ∷ es) x h d =
 
     apart : holds (e .file) (es ++ x ∷ []) ≡ false
     apart = ap isSome (found-past (e .file) es (x ∷ []) old) ∙ other (eqb (x .file) (e .file)) refl
+
+-- a write that keeps the entry's file
+pub set-apart : (es : List Entry) (i : ℕ) (x y : Entry) → distinct es ≡ true → i < length es → y ≡ getD es i y → x .file ≡ y .file → distinct (set es i x) ≡ true
+set-apart es i x y d lt is e =
+    let here : placeOf (y .file) es ≡ Some i = ap (λ (z : Entry). placeOf (z .file) es) is ∙ place-at es i y d lt in
+    let g : Entry → Entry = λ z. record { file = z .file; key = x .key; interest = x .interest; mode = x .mode; armed = x .armed; stuck = x .stuck } in
+    let s = split (y .file) es i d here in
+    let same : x ≡ g (s .here) =
+    let with-file : ℕ → Entry = λ n. record { file = n; key = x .key; interest = x .interest; mode = x .mode; armed = x .armed; stuck = x .stuck } in
+    ap with-file (e ∙ ap (λ (z : Entry). z .file) (is ∙ split-entry (y .file) es i y s)) in
+    ap distinct (set-changed (y .file) es i g x s same) ∙ distinct-changed (y .file) g es (λ z. refl) d
+
+holds-cut : (f : ℕ) (es : List Entry) (i : ℕ) → holds f es ≡ false → holds f (take i es ++ drop (suc i) es) ≡ false
+holds-cut f [] zero h = refl
+holds-cut f [] (suc i) h = refl
+holds-cut f (e ∷ es) zero h = unlike f e es (eqb (e .file) f) h .1
+holds-cut f (e ∷ es) (suc i) h =
+    let u = unlike f e es (eqb (e .file) f) h in
+    ap (λ (b : Bool). isSome (cond b (Some e) (entryOf f (take i es ++ drop (suc i) es)))) (u .0) ∙ holds-cut f es i (u .1)
+
+-- an entry that goes
+cut-apart : (es : List Entry) (i : ℕ) → distinct es ≡ true → distinct (take i es ++ drop (suc i) es) ≡ true
+cut-apart [] zero d = refl
+cut-apart [] (suc i) d = refl
+cut-apart (e ∷ es) zero d = distinct-tail (holds (e .file) es) (distinct es) d
+cut-apart (e ∷ es) (suc i) d =
+    ap (λ (b : Bool). cond b false (distinct (take i es ++ drop (suc i) es))) (holds-cut (e .file) es i (distinct-head (holds (e .file) es) (distinct es) d))
+    ∙ cut-apart es i (distinct-tail (holds (e .file) es) (distinct es) d)
+
+-- by what `Vec::remove` says
+pub removal-apart : (es ys : List Entry) (i : ℕ) → distinct es ≡ true → ys ≡ cutAt es i → distinct ys ≡ true
+removal-apart es ys i d e = ap distinct e ∙ cut-apart es i d

@@ -1,7 +1,8 @@
 use mathlib.Core.Path.{refl}
 use native.Mathlib.Omega.{arith}
-use Rattle.poller.proofs.Outcomes.{written-apart, deleted-none, deleted-fails, deleted-apart, deleted-works}
-use Rattle.poller.specs.Register.{marked}
+use Rattle.poller.proofs.Outcomes.{deleted-none, deleted-fails, deleted-works}
+use Rattle.poller.proofs.Standing.{set-apart, removal-apart}
+use Rattle.poller.specs.Places.{entriesOf}
 use Rattle.poller.proofs.table.Table.delete.Needs as need
 
 pub returns-in-rest : need.returns-in-rest
@@ -9,7 +10,7 @@ returns-in-rest c = deleted-none _ _ _ (c .in-rest .ensures tt .place)
 
 pub ghost-self : need.ghost-self
 ghost-self c =
-    (omega arith, (omega arith, (written-apart _ _ _ (c .args .self .now .apart) (c .in-Some .ensures tt .place) marked _ (c .index-mut .ensures .value) (λ e. refl), tt)))
+    (omega arith, (omega arith, (set-apart (entriesOf (c .args .self .now)) (c .in-Some .i) _ _ (c .args .self .now .apart) (omega (arith, c .args .self .now .entries .ok .0, c .in-Some .ensures tt .within)) (c .index-mut .ensures .value) refl, tt)))
 
 pub returns-in-Some-fault : need.returns-in-Some-fault
 returns-in-Some-fault c =
@@ -17,7 +18,7 @@ returns-in-Some-fault c =
 
 pub ghost-self-2 : need.ghost-self-2
 ghost-self-2 c =
-    (omega (arith, c .remove .ensures .capacity), (omega (arith, c .remove .ensures .len), (deleted-apart _ _ (c .args .fault) _ (c .in-Some .ensures tt .place) (c .args .self .now .apart) _ (c .remove .ensures .items), tt)))
+    (omega (arith, c .remove .ensures .capacity), (omega (arith, c .remove .ensures .len), (removal-apart (entriesOf (c .args .self .now)) _ _ (c .args .self .now .apart) (c .remove .ensures .items), tt)))
 
 pub returns : need.returns
 returns c =

@@ -3,12 +3,13 @@ use mathlib.Core.Path.{refl, ap, _∙_}
 use native.Mathlib.Omega.{arith}
 use Rattle.std.specs.Of.Vec.{vec-items}
 use Rattle.poller.specs.Places.{entriesOf}
-use Rattle.poller.proofs.Reporting.{event-at, disarmed-apart, told-one-shot, told-other}
+use Rattle.poller.proofs.Reporting.{event-at, told-one-shot, told-other}
+use Rattle.poller.proofs.Standing.{set-apart}
 use Rattle.poller.proofs.table.Table.tell.Needs as need
 
 pub ghost-self : need.ghost-self
 ghost-self c =
-    (omega arith, (omega arith, (disarmed-apart (entriesOf (c .args .self .now)) (c .args .i) (c .args .self .now .apart) _ (c .index-mut .ensures .value) (omega (arith, c .args .self .now .entries .ok .0)), tt)))
+    (omega arith, (omega arith, (set-apart (entriesOf (c .args .self .now)) (c .args .i) _ _ (c .args .self .now .apart) (omega (arith, c .args .self .now .entries .ok .0)) (c .index-mut .ensures .value) refl, tt)))
 
 pub returns-then-eq : need.returns-then-eq
 returns-then-eq c =
