@@ -1,3 +1,4 @@
 pub mod Waits
 pub mod Entries
 pub mod Locality
+pub mod Armed

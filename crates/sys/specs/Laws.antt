@@ -10,6 +10,10 @@ use Rattle.poller.specs.declared.entry.Entry.{Entry}
 use Rattle.poller.specs.declared.entry.Mode.the-variants.{OneShot}
 use Rattle.poller.specs.Register.{entryOf}
 use Rattle.levels.specs.declared.table.Line.{Line}
+use Rattle.levels.specs.Table.{lineOf}
+use Rattle.token.specs.Key.{keyOf}
+use Rattle.sys.specs.declared.event.Class.the-variants.{Polled}
+use Rattle.sys.specs.declared.event.PollEvent.{PollEvent}
 
 abbrev pub In : {X : Type 0} → X → List X → Type 0
 In x [] = ⊥
@@ -44,3 +48,10 @@ pub record Wakeful (es : List Entry) (ls : Option (List Line)) (es′ : List Ent
   pub same : Consistent es ls → map unarmed es′ ≡ map unarmed es
   pub consistent : Consistent es ls → Consistent es′ ls′
   pub lines : ls′ ≡ ls
+
+-- each reported key that has a line is armed again: the entry of the line's file, if it stands, is armed
+abbrev pub Rearmed : Option (List Line) → List PollEvent → List Entry → Type 0
+Rearmed None vs es = Unit {0}
+Rearmed (Some ls) vs es =
+    (v : PollEvent) → In v vs → v .class ≡ Polled → (l : Line) → lineOf (keyOf (v .token)) ls ≡ Some l
+    → (e : Entry) → entryOf (l .file) es ≡ Some e → e .armed ≡ true

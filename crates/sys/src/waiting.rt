@@ -3,11 +3,11 @@ ghost use mathlib.Core.List.{[], _++_, map};
 ghost use mathlib.Core.Path.{_≡_};
 ghost use Prim.Native.Nat.{ℕ, _≤_};
 ghost use Rattle.std.specs.Of.Vec.{vec-items, vec-len};
-ghost use Rattle.token.specs.Refusal.{outcome};
+ghost use Rattle.token.specs.Refusal.{done, outcome};
 ghost use Rattle.levels.specs.Table.{linesOf};
 ghost use Rattle.timer_wheel.specs.Laws.{dueBy, rest};
 ghost use Rattle.timer_wheel.specs.Wheel.{firstDeadline, wheelOf};
-ghost use Rattle.sys.specs.Laws.{Wakeful};
+ghost use Rattle.sys.specs.Laws.{Rearmed, Wakeful};
 ghost use Rattle.sys.specs.Polling.{Polls, Rearms, RearmsIn, polled, rung, stateOf, withClock, withPoller, withWheel};
 ghost use Rattle.sys.specs.Timeout.{TimedBy};
 use crate::clock::Clock;
@@ -63,6 +63,7 @@ impl<P: Poller, C: Clock> Poll<P, C> {
     pub fn poll(&mut self, timeout: Option<u64>, events: &mut PollEvents) -> Result<(), Error>
         ensures is { λ r. ⌜ Polls (P·Poller .modifies) (C·Clock .reads) (P·Poller .waits) timeout (stateOf (now (self .entry))) (outcome r) (vec-items (now (events .exit) .items)) (stateOf (now (self .exit))) ⌝ }
         ensures wakeful { λ _. ⌜ Wakeful (P·Poller .entries (now (self .entry) .poller)) (stateOf (now (self .entry)) .lines) (P·Poller .entries (now (self .exit) .poller)) (stateOf (now (self .exit)) .lines) ⌝ }
+        ensures rearmed { λ r. ⌜ (outcome r ≡ done tt → Rearmed (stateOf (now (self .entry)) .lines) (vec-items (now (events .exit) .items)) (P·Poller .entries (now (self .exit) .poller))) ⌝ }
     {
         self.wait(timeout, events)
     }
