@@ -2,7 +2,8 @@
 ghost use Prim.Native.Nat.{_≤_, _<_};
 ghost use mathlib.Core.Path.{_≡_};
 ghost use mathlib.Core.List.{[]};
-ghost use Rattle.std.specs.Of.Vec.{vec-cap, vec-len};
+ghost use Rattle.std.specs.Of.Vec.{vec-cap, vec-items, vec-len};
+ghost use Rattle.std.specs.Vec.{made};
 use std::alloc::AllocError;
 use std::alloc::Global;
 use sys::Class;
@@ -33,7 +34,9 @@ pub struct Sheet {
 }
 
 impl Sheet {
-    pub fn new(heap: Global) -> Result<Sheet, AllocError> {
+    pub fn new(heap: Global) -> Result<Sheet, AllocError>
+        ensures { λ r. ⌜ made r (λ s. vec-items (s .lines) ≡ []) ⌝ }
+    {
         let lines = Vec::with_capacity(heap, 640)?;
         Ok(Sheet { lines })
     }

@@ -1,6 +1,9 @@
 // Events as the loop hands them to their sources.
 ghost use Prim.Native.Nat.{_≤_};
-ghost use Rattle.std.specs.Of.Vec.{vec-cap, vec-len};
+ghost use Rattle.std.specs.Of.Vec.{vec-cap, vec-items, vec-len};
+ghost use Rattle.std.specs.Vec.{made};
+ghost use mathlib.Core.List.{[]};
+ghost use mathlib.Core.Path.{_≡_};
 use poller::Readiness;
 use std::alloc::AllocError;
 use std::alloc::Global;
@@ -30,7 +33,9 @@ pub struct PollEvents {
 }
 
 impl PollEvents {
-    pub fn new(heap: Global) -> Result<PollEvents, AllocError> {
+    pub fn new(heap: Global) -> Result<PollEvents, AllocError>
+        ensures { λ r. ⌜ made r (λ e. vec-items (e .items) ≡ []) ⌝ }
+    {
         let items = Vec::with_capacity(heap, 512)?;
         Ok(PollEvents { items })
     }
