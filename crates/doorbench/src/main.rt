@@ -1,4 +1,6 @@
 // Reads a door script from standard input, and writes one line for each of its lines.
+#![tactic(auto)]
+
 mod answer;
 mod bench;
 

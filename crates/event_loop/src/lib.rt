@@ -1,4 +1,6 @@
 // The loop: sources in slots, and their events handed to them.
+#![tactic(auto)]
+
 mod calls;
 mod decide;
 mod dispatch;

@@ -1,4 +1,6 @@
 // What a poller is, with the poller of the test bench and that of a board's lines.
+#![tactic(auto)]
+
 mod bench;
 mod entry;
 mod events;

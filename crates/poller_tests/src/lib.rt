@@ -1,4 +1,6 @@
 // Tests of the pollers, in a crate of their own, since a crate with tests is proved twice.
+#![tactic(auto)]
+
 #[cfg(test)]
 mod bench;
 #[cfg(test)]

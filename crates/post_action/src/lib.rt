@@ -1,4 +1,6 @@
 // What a source wants done with itself once its event is processed.
+#![tactic(auto)]
+
 ghost use Rattle.std.specs.Prelude.{◌≡◌};
 ghost use Rattle.post_action.specs.Join.{join_of};
 

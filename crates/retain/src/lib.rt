@@ -1,4 +1,6 @@
 // Keeps the items that pass a test, in place and in their order.
+#![tactic(auto)]
+
 ghost use Rattle.std.specs.Prelude.{◌≡◌, ◌≤◌, Bool, vec_len, vec_capacity, filter};
 
 // A test of items, as a type of its own where Rust would pass a closure.

@@ -1,1 +1,2 @@
 // The rules of source kinds: definitions and their lemmas alone.
+#![tactic(auto)]

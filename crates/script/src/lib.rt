@@ -1,4 +1,6 @@
 // The lines of a test script: one form to a line, one spelling for each form.
+#![tactic(auto)]
+
 ghost use Rattle.std.specs.Prelude.{◌≡◌, ℕ, ◌^◌, ◌<◌, ◌≤◌, ◌++◌, length, IfOk, codes, MatchOption, ◌≢◌, slice_index};
 ghost use Rattle.script.specs.Line.{Lists, NoList, Reading, letter_of};
 ghost use Rattle.script.specs.Number.{Digit, Digits, NoNumber, Number, value};

@@ -1,4 +1,6 @@
 // Source kinds: what the loop asks of one, and the sum of two.
+#![tactic(auto)]
+
 mod asking;
 mod either;
 mod errand;

@@ -1,4 +1,6 @@
 // The polling system: poller, level table, timers and clock behind one face.
+#![tactic(auto)]
+
 mod clock;
 mod event;
 mod poll;

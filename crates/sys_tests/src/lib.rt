@@ -1,4 +1,6 @@
 // Tests of the polling system over both pollers.
+#![tactic(auto)]
+
 #[cfg(test)]
 mod bench;
 #[cfg(test)]

@@ -1,4 +1,6 @@
 // A source that rings at a deadline: what it does then is its handler's.
+#![tactic(auto)]
+
 mod calls;
 mod handler;
 mod timer;

@@ -1,4 +1,6 @@
 // Tokens, the factory that draws them, and every refusal of the loop.
+#![tactic(auto)]
+
 mod error;
 mod factory;
 mod token;
