@@ -1,12 +1,12 @@
 use Rattle.std.proofs.Common.{sym, ◌∙◌, arith}
 use Rattle.std.proofs.lemmas.List.Filters.{FiltersInPlace-more_no, FiltersInPlace-more_set, FiltersInPlace-all}
 use Rattle.retain.proofs.retain.Goals as goal
-use Rattle.retain.proofs.retain.Goals.{then_Keeps, else-keeps}
+use Rattle.retain.proofs.retain.Goals.{then-keeps, else-keeps}
 
 pub loop-i-preserved : goal.loop-i-preserved
 loop-i-preserved g c =
     elim c.if-keeps.branch [
-      | then_Keeps w ↦
+      | then-keeps w ↦
           simp (w.items-is, w.count-is)
           (FiltersInPlace-more_set c.loop-i.invariant.0 (omega (arith, c.loop-i.items.ok.0)) (sym c.keeps.ensures ∙ w.if-keeps.true) c.index-item.ensures, c.loop-i.invariant.1)
       | else-keeps w ↦
