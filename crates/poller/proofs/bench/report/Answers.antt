@@ -10,7 +10,7 @@ loop-file-init c =
 pub loop-file-preserved : goal.loop-file-preserved
 loop-file-preserved c = (
   c.consider.ensures.count,
-  c.type-inv.told,
+  c.type_inv.told,
   stands_more _ c.args.ready.now c.loop-file.file-index _ _ _ _ (omega arith) (c.consider.ensures.goes _ _ c.loop-file.invariant.2.0 c.loop-file.invariant.2.1),
 )
 
