@@ -2,8 +2,8 @@ use Rattle.list.specs.Slots.{slots_of}
 use Rattle.list.proofs.Hand.{fits_some, fits_filled, still_fits, back_open, back_calm}
 use Rattle.event_loop.proofs.inner.LoopInner.before_sleep.Goals as goal
 
-pub take-out-source-requires : goal.take-out-source-requires
-take-out-source-requires g c =
+pub take_out-source-requires : goal.take_out-source-requires
+take_out-source-requires g c =
     let f = fits_some (slots_of c.args.self.now.sources) c.in-Some.registration c.in-Some-fits.slot c.in-Some-fits.ensures in
     record { within = f.within; there = fits_filled _ c.in-Some.registration c.in-Some-fits.slot c.requires f }
 
@@ -11,18 +11,18 @@ pub fill-requires : goal.fill-requires
 fill-requires g c =
     let xs = slots_of c.args.self.now.sources in
     record {
-      within = (still_fits xs _ c.in-Some.registration c.in-Some-fits.slot c.requires c.in-Some-fits.ensures c.take-out-source.ensures.after).within;
-      there = back_open xs _ c.in-Some.registration c.in-Some-fits.slot c.requires c.in-Some-fits.ensures c.take-out-source.ensures.after;
+      within = (still_fits xs _ c.in-Some.registration c.in-Some-fits.slot c.requires c.in-Some-fits.ensures c.take_out-source.ensures.after).within;
+      there = back_open xs _ c.in-Some.registration c.in-Some-fits.slot c.requires c.in-Some-fits.ensures c.take_out-source.ensures.after;
     }
 
-pub returns-in-err-readiness : goal.returns-in-err-readiness
-returns-in-err-readiness g c =
-    back_calm (slots_of c.args.self.now.sources) _ c.in-Some.registration c.in-Some-fits.slot c.requires c.in-Some-fits.ensures c.take-out-source.ensures.after _ _ c.fill.ensures
+pub returns-in_err-readiness : goal.returns-in_err-readiness
+returns-in_err-readiness g c =
+    back_calm (slots_of c.args.self.now.sources) _ c.in-Some.registration c.in-Some-fits.slot c.requires c.in-Some-fits.ensures c.take_out-source.ensures.after _ _ c.fill.ensures
 
 pub returns-in-Some-2 : goal.returns-in-Some-2
 returns-in-Some-2 g c =
-    back_calm (slots_of c.args.self.now.sources) _ c.in-Some.registration c.in-Some-fits.slot c.requires c.in-Some-fits.ensures c.take-out-source.ensures.after _ _ c.fill.ensures
+    back_calm (slots_of c.args.self.now.sources) _ c.in-Some.registration c.in-Some-fits.slot c.requires c.in-Some-fits.ensures c.take_out-source.ensures.after _ _ c.fill.ensures
 
 pub returns-in-None : goal.returns-in-None
 returns-in-None g c =
-    back_calm (slots_of c.args.self.now.sources) _ c.in-Some.registration c.in-Some-fits.slot c.requires c.in-Some-fits.ensures c.take-out-source.ensures.after _ _ c.fill.ensures
+    back_calm (slots_of c.args.self.now.sources) _ c.in-Some.registration c.in-Some-fits.slot c.requires c.in-Some-fits.ensures c.take_out-source.ensures.after _ _ c.fill.ensures

@@ -1,4 +1,4 @@
-use Rattle.std.proofs.Common.{◌≡◌, sym, ap, ◌∙◌, subst, arith}
+use Rattle.std.proofs.Common.{sym, arith}
 use Rattle.levels.proofs.Rooms.{find_more, find_here, find_none}
 use Rattle.levels.proofs.table.Levels.find.Goals as goal
 

@@ -6,8 +6,8 @@ use Rattle.sys.proofs.poll.Poll.hand_out.Goals as goal
 pub loop-event-preserved : goal.loop-event-preserved
 loop-event-preserved g c =
     let told = c.args.self.now.events.items in (
-      omega (arith, c.push-reserved.ensures.len, c.loop-event.invariant.0),
-      simp (c.push-reserved.ensures.items, c.loop-event.invariant.1, c.from-key-token.ensures.value, c.deref-event-items.ensures.value)
+      omega (arith, c.push_reserved.ensures.len, c.loop-event.invariant.0),
+      simp (c.push_reserved.ensures.items, c.loop-event.invariant.1, c.from_key-token.ensures.value, c.deref-event-items.ensures.value)
           (sym (map_more polled (vec_items told) c.loop-event.event-index _ (omega (arith, c.deref-event-items.ensures.len, told.ok.0)))),
     )
 
