@@ -5,17 +5,23 @@ use Rattle.timer_wheel.proofs.Order.{rising_enter}
 use Rattle.timer_wheel.proofs.Expiry.{joins}
 use Rattle.timer_wheel.proofs.Walks.{joined}
 use Rattle.timer_wheel.proofs.wheel.TimerWheel.enter.Goals as goal
+use Rattle.timer_wheel.proofs.wheel.TimerWheel.enter.Goals.{After-insert}
 
-took : (c : goal.After-insert) → is_ok c.insert.result ≡ true
+took : (c : After-insert) → is_ok c.insert.result ≡ true
 took c = c.insert.ensures.succeeds (omega arith)
 
-items : (c : goal.After-insert) → vec_items c.insert.new.self ≡ enter c.args.entry (vec_items c.args.self.now.entries)
+items : (c : After-insert) → vec_items c.insert.new.self ≡ enter c.args.entry (vec_items c.args.self.now.entries)
 items c =
     joined c.args.entry (vec_items c.args.self.now.entries) c.deref.result.now _ c.place-at.result _ c.deref.ensures.value c.place-at.ensures.value (took c) c.insert.ensures.items
 
-pub invariant-of-self : goal.invariant-of-self
-invariant-of-self c =
-    (omega arith, (omega (arith, c.insert.ensures.len ∙ cond-true (is_ok c.insert.result) _ _ (took c)), (rising_enter c.args.entry _ _ (items c) c.args.self.now.rising, (omega arith, tt))))
+pub invariant_of-self : goal.invariant_of-self
+invariant_of-self c =
+    record {
+      room = omega arith;
+      few = omega (arith, c.insert.ensures.len ∙ cond-true (is_ok c.insert.result) _ _ (took c));
+      rising = rising_enter c.args.entry _ _ (items c) c.args.self.now.rising;
+      small = omega arith;
+    }
 
 pub returns : goal.returns
 returns c =
