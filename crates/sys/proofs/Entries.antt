@@ -1,5 +1,5 @@
 -- What a change of the entries or of the lines leaves.
-use Rattle.std.proofs.Common.{◌≡◌, ℕ, Bool, true, false, cond, not, eqb, ◌⊎◌, List, [], ◌∷◌, ◌++◌, map, is_some, Some, None, filter, Option, sym, refl, ap, ◌∙◌, subst, inl, inr, arith}
+use Rattle.std.proofs.Common.{◌≡◌, ℕ, Bool, true, false, cond, not, eqb, ◌⊎◌, List, [], ◌∷◌, ◌++◌, map, is_some, Some, None, filter, Option, sym, refl, ap, ◌∙◌, inl, inr, arith}
 use Rattle.std.specs.Option.{option_map}
 use Rattle.std.proofs.lemmas.Bool.{true≢false, false≢true, cond-true, cond-false, eq-eqb, ne_eqb, eqb-true}
 use Rattle.poller.specs.declared.entry.Entry.{Entry}
@@ -8,7 +8,7 @@ use Rattle.poller.specs.declared.entry.Mode.TheVariants.{OneShot, Level, Edge}
 use Rattle.poller.specs.Register.{entry_of, holds, distinct, changed, removed}
 use Rattle.poller.specs.Meaning.{among, once_told, told}
 use Rattle.levels.specs.declared.table.Line.{Line}
-use Rattle.levels.specs.Table.{hits, stays, line_of}
+use Rattle.levels.specs.Table.{stays, line_of}
 use Rattle.sys.specs.Laws.{In, unarmed}
 
 -- ENTRIES

@@ -1,5 +1,5 @@
 -- Each call touches one file, and keeps the level table consistent.
-use Rattle.std.proofs.Common.{◌≡◌, ℕ, Bool, true, false, cond, ltb, ◌⊎◌, List, [], ◌∷◌, ◌++◌, map, length, Some, None, Option, sym, refl, ap, ◌∙◌, subst, inl, inr, arith}
+use Rattle.std.proofs.Common.{◌≡◌, ℕ, Bool, true, false, cond, ltb, List, [], ◌∷◌, map, length, Some, None, Option, sym, refl, ap, ◌∙◌, subst, inl, inr, arith}
 use Rattle.std.specs.Option.{option_map}
 use Rattle.std.proofs.lemmas.Bool.{cases_eq}
 use Rattle.token.specs.Refusal.{Outcome, done, refused, refusal}
@@ -7,14 +7,14 @@ use Rattle.poller.specs.declared.entry.Entry.{Entry}
 use Rattle.poller.specs.declared.entry.Event.{Event}
 use Rattle.poller.specs.declared.entry.Mode.{Mode}
 use Rattle.poller.specs.declared.entry.Mode.TheVariants.{OneShot, Level, Edge}
-use Rattle.poller.specs.Register.{Request, Sound, entry_of, holds, distinct, changed, removed, fresh, renewed, marked}
+use Rattle.poller.specs.Register.{Request, Sound, entry_of, holds, distinct, fresh, renewed, marked}
 use Rattle.poller.specs.Meaning.{Answer, By, Fate, works, fails, grown, altered, lessened, add_of, modify_of, delete_of, Waited}
 use Rattle.levels.specs.declared.table.Line.{Line}
 use Rattle.levels.specs.Table.{dropped, entered, full_for, line_of, stays}
 use Rattle.sys.specs.declared.event.PollEvent.{PollEvent}
 use Rattle.sys.specs.Laws.{In, Agrees, Consistent, Untouched, Touches, Wakeful, unarmed}
 use Rattle.sys.specs.Polling.{State, Registers, Sent, Unregisters, LetsGo, Arms, Goes, Rearms, RearmsIn, Takes, Wakes, Polls, lines_after, mode_below_of, request}
-use Rattle.sys.proofs.Entries.{Alike, alike_at, changed_alike, changed_here, changed_none, changed_other, found_in, in_last, left_over, not_file, push_here, push_other, removed_other, told_alike}
+use Rattle.sys.proofs.Entries.{Alike, alike_at, changed_alike, changed_here, changed_other, found_in, in_last, left_over, not_file, push_here, push_other, removed_other, told_alike}
 
 -- CALLS OF THE POLLER
 

@@ -2,7 +2,7 @@
 use Rattle.std.proofs.Common.{◌≡◌, ℕ, ◌+◌, ◌<◌, ◌≤◌, Bool, true, false, cond, leb, List, [], ◌∷◌, ◌++◌, map, length, get_or, drop, Some, None, Option, sym, refl, ap, ◌∙◌, subst, append_assoc, arith}
 use Rattle.std.proofs.lemmas.List.{drop_more, drop_all, append-nil}
 use Rattle.token.specs.declared.token.Token.{Token}
-use Rattle.token.specs.Refusal.{Outcome, done, refused}
+use Rattle.token.specs.Refusal.{done, refused}
 use Rattle.poller.specs.declared.entry.Event.{Event}
 use Rattle.poller.specs.declared.entry.Mode.TheVariants.{OneShot}
 use Rattle.poller.specs.Meaning.{Answer}
@@ -10,7 +10,7 @@ use Rattle.poller.specs.Register.{Request}
 use Rattle.timer_wheel.specs.declared.timeout.TimeoutData.{TimeoutData}
 use Rattle.std.specs.Option.{option_map}
 use Rattle.timer_wheel.specs.Entries.{Rising, expired}
-use Rattle.timer_wheel.specs.Laws.{Drains, Exact, due_by, rest}
+use Rattle.timer_wheel.specs.Laws.{Drains, due_by, rest}
 use Rattle.timer_wheel.specs.Wheel.{Wheel, told, expired_of}
 use Rattle.timer_wheel.proofs.Expiry.{exact}
 use Rattle.levels.specs.declared.table.Line.{Line}

@@ -1,6 +1,6 @@
 -- The polling system as plain values, and what each of its calls comes to.
 -- What the poller and the clock answer is free; each answer comes with the word of the one who gave it.
-use Rattle.std.specs.Prelude.{◌≡◌, ℕ, Bool, true, false, cond, List, [], ◌∷◌, ◌++◌, map, Some, None, vec_items, Option}
+use Rattle.std.specs.Prelude.{◌≡◌, ℕ, Bool, true, false, cond, List, [], ◌∷◌, ◌++◌, map, Some, None, Option}
 use Rattle.std.specs.Option.{option_map}
 use Rattle.token.specs.Key.{token_of}
 use Rattle.token.specs.Refusal.{Outcome, done, refused, refusal}

@@ -1,6 +1,6 @@
 -- The polling system by its meaning alone, and what its calls come to there.
 -- Over which poller and which clock is left out; what they were asked and answered stays by name.
-use Rattle.std.specs.Prelude.{◌≡◌, ℕ, List, [], ◌∷◌, Some, None, Option}
+use Rattle.std.specs.Prelude.{◌≡◌, ℕ, List, [], ◌∷◌, None, Option}
 use Rattle.std.specs.Option.{option_map}
 use Rattle.token.specs.Refusal.{Outcome, done, refused}
 use Rattle.poller.specs.declared.entry.Entry.{Entry}

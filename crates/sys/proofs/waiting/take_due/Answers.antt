@@ -1,4 +1,4 @@
-use Rattle.std.proofs.Common.{List, vec_items, arith, rules}
+use Rattle.std.proofs.Common.{vec_items, arith}
 use Rattle.timer_wheel.specs.Wheel.{wheel_of}
 use Rattle.sys.proofs.Waits.{taking_none, taking_more, taking_all, taken_one}
 use Rattle.sys.proofs.waiting.take_due.Goals as goal

@@ -1,4 +1,4 @@
-use Rattle.std.proofs.Common.{map, take, vec_items, sym, ap, ◌∙◌, arith}
+use Rattle.std.proofs.Common.{map, vec_items, sym, ap, ◌∙◌, arith}
 use Rattle.std.proofs.lemmas.List.{map_more, take_all}
 use Rattle.sys.specs.Polling.{polled}
 use Rattle.sys.proofs.poll.Poll.hand_out.Goals as goal
