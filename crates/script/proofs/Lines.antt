@@ -30,7 +30,7 @@ other l m s t line d e f =
 
 -- (T d p)
 
-pub record Timer-line (text : List ℕ) (g : Plain) : Type 0 where
+pub record TimerLine (text : List ℕ) (g : Plain) : Type 0 where
   pub deadline : ℕ
   pub period : ℕ
   pub is : g ≡ timer deadline period
@@ -38,38 +38,33 @@ pub record Timer-line (text : List ℕ) (g : Plain) : Type 0 where
   pub period_fits : period < 2 ^ 64
   pub reads : decimal deadline ++ (32 ∷ (decimal period ++ (41 ∷ []))) ≡ text
 
-pub timer_line : (text : List ℕ) (g : Plain) → Writes g (codes "(T " ++ text) → Timer-line text g
+pub timer_line : (text : List ℕ) (g : Plain) → Writes g (codes "(T " ++ text) → TimerLine text g
 timer_line text (timer d p) w =
     let e = w.is in
     record { deadline = d; period = p; is = refl; deadline_fits = w.fits.0; period_fits = w.fits.1; reads = cc }
 timer_line text (generic f a) w = absurd (other 71 84 _ _ _ refl w.is refl)
 timer_line text (wait c fs) w = absurd (other 87 84 _ _ _ refl w.is refl)
 
-pub timer_no_deadline : (text : List ℕ) → NoNumber 64 text → NoForm (codes "(T " ++ text)
-timer_no_deadline text h g w =
-    let v = timer_line text g w in
-    no_number 64 text v.deadline 32 _ h v.deadline-fits space_stops v.reads
-
 pub timer_no_space : (text : List ℕ) (m : ℕ) (rest : List ℕ) → Number 64 text m rest → ((s : List ℕ) → rest ≡ 32 ∷ s → ⊥) → NoForm (codes "(T " ++ text)
 timer_no_space text m rest q h g w =
     let v = timer_line text g w in
-    h _ (after_number text m rest q v.deadline 32 _ v.deadline-fits space_stops v.reads).1
+    h _ (after_number text m rest q v.deadline 32 _ v.deadline_fits space_stops v.reads).1
 
 -- what stands after the space
-period_text : (text : List ℕ) (m : ℕ) (rest more : List ℕ) → Number 64 text m rest → rest ≡ 32 ∷ more → (g : Plain) (v : Timer-line text g) → decimal v.period ++ (41 ∷ []) ≡ more
+period_text : (text : List ℕ) (m : ℕ) (rest more : List ℕ) → Number 64 text m rest → rest ≡ 32 ∷ more → (g : Plain) (v : TimerLine text g) → decimal v.period ++ (41 ∷ []) ≡ more
 period_text text m rest more q s g v =
-    let a = (after_number text m rest q v.deadline 32 _ v.deadline-fits space_stops v.reads).1 in
+    let a = (after_number text m rest q v.deadline 32 _ v.deadline_fits space_stops v.reads).1 in
     cc
 
 pub timer_no_period : (text : List ℕ) (m : ℕ) (rest more : List ℕ) → Number 64 text m rest → rest ≡ 32 ∷ more → NoNumber 64 more → NoForm (codes "(T " ++ text)
 timer_no_period text m rest more q s h g w =
     let v = timer_line text g w in
-    no_number 64 more v.period 41 [] h v.period-fits bracket_stops (period_text text m rest more q s g v)
+    no_number 64 more v.period 41 [] h v.period_fits bracket_stops (period_text text m rest more q s g v)
 
 pub timer_no_end : (text : List ℕ) (m : ℕ) (rest more : List ℕ) (n : ℕ) (end : List ℕ) → Number 64 text m rest → rest ≡ 32 ∷ more → Number 64 more n end → (end ≡ 41 ∷ [] → ⊥) → NoForm (codes "(T " ++ text)
 timer_no_end text m rest more n end q s r h g w =
     let v = timer_line text g w in
-    h (after_number more n end r v.period 41 [] v.period-fits bracket_stops (period_text text m rest more q s g v)).1
+    h (after_number more n end r v.period 41 [] v.period_fits bracket_stops (period_text text m rest more q s g v)).1
 
 pub timer_read : (text : List ℕ) (m : ℕ) (rest more : List ℕ) (n : ℕ) (end : List ℕ) → Number 64 text m rest → rest ≡ 32 ∷ more → Number 64 more n end → end ≡ 41 ∷ [] → Writes (timer m n) (codes "(T " ++ text)
 timer_read text m rest more n end q s r h =
@@ -79,34 +74,29 @@ timer_read text m rest more n end q s r h =
 
 -- (G f a)
 
-pub record Generic-line (text : List ℕ) (g : Plain) : Type 0 where
+pub record GenericLine (text : List ℕ) (g : Plain) : Type 0 where
   pub file : ℕ
   pub action : PostAction
   pub is : g ≡ generic file action
   pub file_fits : file < 2 ^ 32
   pub reads : decimal file ++ (32 ∷ (letter_of action ∷ (41 ∷ []))) ≡ text
 
-pub generic_line : (text : List ℕ) (g : Plain) → Writes g (codes "(G " ++ text) → Generic-line text g
+pub generic_line : (text : List ℕ) (g : Plain) → Writes g (codes "(G " ++ text) → GenericLine text g
 generic_line text (timer d p) w = absurd (other 84 71 _ _ _ refl w.is refl)
 generic_line text (generic f a) w =
     let e = w.is in
     record { file = f; action = a; is = refl; file_fits = w.fits; reads = cc }
 generic_line text (wait c fs) w = absurd (other 87 71 _ _ _ refl w.is refl)
 
-pub generic_no_file : (text : List ℕ) → NoNumber 32 text → NoForm (codes "(G " ++ text)
-generic_no_file text h g w =
-    let v = generic_line text g w in
-    no_number 32 text v.file 32 _ h v.file-fits space_stops v.reads
-
 pub generic_no_end : (text : List ℕ) (m : ℕ) (rest : List ℕ) → Number 32 text m rest → ((l : ℕ) → rest ≡ 32 ∷ (l ∷ (41 ∷ [])) → ⊥) → NoForm (codes "(G " ++ text)
 generic_no_end text m rest q h g w =
     let v = generic_line text g w in
-    h _ (after_file text m rest q v.file 32 _ v.file-fits space_stops v.reads).1
+    h _ (after_file text m rest q v.file 32 _ v.file_fits space_stops v.reads).1
 
 pub generic_no_action : (text : List ℕ) (m : ℕ) (rest : List ℕ) (l : ℕ) → Number 32 text m rest → rest ≡ 32 ∷ (l ∷ (41 ∷ [])) → ((a : PostAction) → letter_of a ≡ l → ⊥) → NoForm (codes "(G " ++ text)
 generic_no_action text m rest l q s h g w =
     let v = generic_line text g w in
-    let t = (after_file text m rest q v.file 32 _ v.file-fits space_stops v.reads).1 in
+    let t = (after_file text m rest q v.file 32 _ v.file_fits space_stops v.reads).1 in
     let z : letter_of v.action ≡ l = cc in
     h v.action z
 
@@ -117,7 +107,7 @@ generic_read text m rest l a q s h =
 
 -- (W c (f f ..))
 
-pub record Wait-line (text : List ℕ) (g : Plain) : Type 0 where
+pub record WaitLine (text : List ℕ) (g : Plain) : Type 0 where
   pub clock : ℕ
   pub files : List ℕ
   pub end : List ℕ
@@ -126,7 +116,7 @@ pub record Wait-line (text : List ℕ) (g : Plain) : Type 0 where
   pub lists : Lists files end
   pub reads : decimal clock ++ (32 ∷ (40 ∷ end)) ≡ text
 
-pub wait_line : (text : List ℕ) (g : Plain) → Writes g (codes "(W " ++ text) → Wait-line text g
+pub wait_line : (text : List ℕ) (g : Plain) → Writes g (codes "(W " ++ text) → WaitLine text g
 wait_line text (timer d p) w = absurd (other 84 87 _ _ _ refl w.is refl)
 wait_line text (generic f a) w = absurd (other 71 87 _ _ _ refl w.is refl)
 wait_line text (wait c fs) w =
@@ -144,17 +134,12 @@ wait_line text (wait c fs) w =
 pub wait_no_open : (text : List ℕ) (m : ℕ) (rest : List ℕ) → Number 64 text m rest → ((s : List ℕ) → rest ≡ 32 ∷ (40 ∷ s) → ⊥) → NoForm (codes "(W " ++ text)
 wait_no_open text m rest q h g w =
     let v = wait_line text g w in
-    h v.end (after_number text m rest q v.clock 32 _ v.clock-fits space_stops v.reads).1
-
-pub wait_no_clock : (text : List ℕ) → NoNumber 64 text → NoForm (codes "(W " ++ text)
-wait_no_clock text h g w =
-    let v = wait_line text g w in
-    no_number 64 text v.clock 32 _ h v.clock-fits space_stops v.reads
+    h v.end (after_number text m rest q v.clock 32 _ v.clock_fits space_stops v.reads).1
 
 pub wait_no_list : (text : List ℕ) (m : ℕ) (rest more : List ℕ) → Number 64 text m rest → rest ≡ 32 ∷ (40 ∷ more) → NoList more → NoForm (codes "(W " ++ text)
 wait_no_list text m rest more q o h g w =
     let v = wait_line text g w in
-    let t = (after_number text m rest q v.clock 32 _ v.clock-fits space_stops v.reads).1 in
+    let t = (after_number text m rest q v.clock 32 _ v.clock_fits space_stops v.reads).1 in
     let z : v.end ≡ more = cc in
     h v.files (subst (Lists v.files) z v.lists)
 

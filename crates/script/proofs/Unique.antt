@@ -65,15 +65,15 @@ same_files (f ∷ fs) (g ∷ gs) text l k =
 one_form : (f : Plain) (line : List ℕ) → Writes f line → (g : Plain) → Writes g line → g ≡ f
 one_form (timer d p) line w g x =
     let v = timer_line _ g (record { fits = x.fits; is = x.is ∙ sym w.is }) in
-    let m = same_number v.deadline d 32 _ _ v.deadline-fits w.fits.0 space_stops v.reads in
-    let n = same_number v.period p 41 [] [] v.period-fits w.fits.1 bracket_stops m.1 in
+    let m = same_number v.deadline d 32 _ _ v.deadline_fits w.fits.0 space_stops v.reads in
+    let n = same_number v.period p 41 [] [] v.period_fits w.fits.1 bracket_stops m.1 in
     let a = m.0 in
     let b = n.0 in
     let e = v.is in
     cc
 one_form (generic f a) line w g x =
     let v = generic_line _ g (record { fits = x.fits; is = x.is ∙ sym w.is }) in
-    let m = same_number v.file f 32 _ _ (omega (arith, v.file-fits)) (omega (arith, w.fits)) space_stops v.reads in
+    let m = same_number v.file f 32 _ _ (omega (arith, v.file_fits)) (omega (arith, w.fits)) space_stops v.reads in
     let t = m.1 in
     let z : letter_of v.action ≡ letter_of a = cc in
     let b = m.0 in
@@ -82,7 +82,7 @@ one_form (generic f a) line w g x =
     cc
 one_form (wait c fs) line w g x =
     let v = wait_line _ g (record { fits = x.fits; is = x.is ∙ sym w.is }) in
-    let m = same_number v.clock c 32 _ _ v.clock-fits w.fits.0 space_stops v.reads in
+    let m = same_number v.clock c 32 _ _ v.clock_fits w.fits.0 space_stops v.reads in
     let t = m.1 in
     let z : v.end ≡ spaced fs ++ codes "))" = cc in
     let a = m.0 in
