@@ -1,5 +1,5 @@
 -- One token alone is drawn as tickets are.
-use Rattle.std.proofs.Common.{◌+◌, sym, refl, subst, inl, inr, arith}
+use Rattle.std.proofs.Common.{◌+◌, sym, subst, inl, inr, arith}
 use Rattle.rules.specs.Calls.{drawn_to}
 use Rattle.rules.specs.Meaning.{Drawer, Drawn}
 use Rattle.rules.proofs.Drawing.{draw_cases, drawn_key}

@@ -3,7 +3,7 @@ use Rattle.std.proofs.Common.{◌≡◌, ℕ, Bool, ◌⊎◌, List, [], Some, N
 use Rattle.std.specs.Option.{option_map}
 use Rattle.token.specs.declared.token.Token.{Token}
 use Rattle.token.specs.Key.{key_of}
-use Rattle.token.specs.Refusal.{Outcome, done, refused, refusal}
+use Rattle.token.specs.Refusal.{Outcome, done, refused}
 use Rattle.poller.specs.Meaning.{Answer, Fate}
 use Rattle.sys.specs.Laws.{In}
 use Rattle.sys.specs.World.{Exchange, World, register_of, reregister_of, unregister_of}

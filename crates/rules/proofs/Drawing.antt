@@ -4,7 +4,6 @@ use Rattle.token.specs.declared.token.Token.{Token}
 use Rattle.token.specs.Drawing.{draw_of}
 use Rattle.token.specs.Key.{key_of}
 use Rattle.token.specs.Refusal.{Outcome, done, refused, refusal}
-use Rattle.poller.specs.Meaning.{Answer}
 use Rattle.rules.specs.Calls.{drawn_to}
 use Rattle.rules.specs.Meaning.{Drawer, Drawn, Forward, Nothing}
 

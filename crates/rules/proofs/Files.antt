@@ -1,5 +1,5 @@
 -- The rule of the files: nothing done, one call after another, and one file changed.
-use Rattle.std.proofs.Common.{◌≡◌, ℕ, true, false, ◌⊎◌, List, [], ◌∷◌, Some, None, Option, sym, refl, ap, ◌∙◌, subst, inl, inr, arith}
+use Rattle.std.proofs.Common.{◌≡◌, ℕ, true, ◌⊎◌, List, [], ◌∷◌, Some, None, Option, sym, refl, ap, ◌∙◌, subst, inl, inr, arith}
 use Rattle.std.proofs.lemmas.Bool.{cases_eq}
 use Rattle.poller.specs.declared.entry.Entry.{Entry}
 use Rattle.poller.specs.Meaning.{Apart}
@@ -112,7 +112,7 @@ module _ (D : ℕ → Type 0) (f : ℕ) (k k' : Option ℕ) (es es' : List Entry
       → Keeps D (under f k) (own_files f k) es (under f k') (own_files f k') es'
   keeps_placed there facts sound =
       let w = facts sound in
-      let at-file : (g : ℕ) (e : Entry) → g ≡ f → entry_of g es' ≡ Some e → entry_of f es' ≡ Some e = λ g e q at. ap (λ (x : ℕ). entry_of x es') (sym q) ∙ at in
+      let at_file : (g : ℕ) (e : Entry) → g ≡ f → entry_of g es' ≡ Some e → entry_of f es' ≡ Some e = λ g e q at. ap (λ (x : ℕ). entry_of x es') (sym q) ∙ at in
       record {
         others = λ g n e at. elim (cases_eq g f) [
           | inl q ↦ elim w.mine [
@@ -124,7 +124,7 @@ module _ (D : ℕ → Type 0) (f : ℕ) (k k' : Option ℕ) (es es' : List Entry
         sound = record {
           stands = λ x m.
               let l = lone_held f x k' m in
-              let v = w.under-key l.0 l.1 in
+              let v = w.under_key l.0 l.1 in
               (v.0, ap (λ (y : Held). entry_of y.file es') l.2 ∙ v.1, v.2 ∙ sym (ap (λ (y : Held). y.key) l.2));
           own = λ x m.
               let l = lone_held f x k' m in
@@ -132,20 +132,20 @@ module _ (D : ℕ → Type 0) (f : ℕ) (k k' : Option ℕ) (es es' : List Entry
           rest = λ g m.
               let q : g ≡ f = lone f g k' m in
               let l = key_of f k' (subst (λ (x : ℕ). In x (own_files f k')) q m) in
-              let v = w.under-key l.0 l.1 in
+              let v = w.under_key l.0 l.1 in
               subst (λ (x : ℕ). (e : Entry) × (entry_of x es' ≡ Some e) × (In (record { file = x; key = e.key }) (under f k') ⊎ (e.stuck ≡ true))) (sym q)
               (v.0, v.1, inl (held_as f v.0.key k' (l.1 ∙ ap (λ (n : ℕ). Some n) (sym v.2))));
           once = lone_once f k';
         };
         only = λ g e at. elim (cases_eq g f) [
-          | inl q ↦ elim (w.held-or-stuck e (at-file g e q at)) [
+          | inl q ↦ elim (w.held_or_stuck e (at_file g e q at)) [
             | inl u ↦ inr (inl (subst (λ (x : ℕ). In x (own_files f k')) (sym q) (owned f e.key k' u)))
             | inr st ↦ inr (inr st)
           ]
           | inr ne ↦ inl (λ m. ne (lone f g k m), sym (there g ne) ∙ at)
         ];
         keys = λ g e at. elim (cases_eq g f) [
-          | inl q ↦ subst (λ (x : ℕ). Stood es x e.key ⊎ D e.key) (sym q) (w.from e (at-file g e q at))
+          | inl q ↦ subst (λ (x : ℕ). Stood es x e.key ⊎ D e.key) (sym q) (w.from e (at_file g e q at))
           | inr ne ↦ inl (e, sym (there g ne) ∙ at, refl)
         ];
         fresh = λ g m.

@@ -1,15 +1,15 @@
 -- A source with one file keeps the rules at each call of the polling system.
-use Rattle.std.proofs.Common.{◌≡◌, ℕ, Bool, true, false, cond, not, eqb, ltb, ◌⊎◌, List, [], ◌∷◌, ◌++◌, length, is_some, Some, None, filter, Option, sym, refl, ap, ◌∙◌, subst, inl, inr, arith}
+use Rattle.std.proofs.Common.{◌≡◌, ℕ, Bool, true, false, cond, not, eqb, ltb, ◌⊎◌, List, [], ◌∷◌, length, is_some, Some, None, Option, sym, refl, ap, ◌∙◌, subst, inl, inr, arith}
 use Rattle.std.proofs.lemmas.Bool.{cond-false, true≢false}
 use Rattle.std.specs.Option.{option_map}
-use Rattle.token.specs.Refusal.{Outcome, done, refused, refusal}
+use Rattle.token.specs.Refusal.{done, refused, refusal}
 use Rattle.poller.specs.declared.entry.Entry.{Entry}
-use Rattle.poller.specs.Register.{Request, changed, entry_of, fresh, holds, marked, removed, renewed}
+use Rattle.poller.specs.Register.{Request, entry_of, fresh, holds, marked, removed, renewed}
 use Rattle.poller.specs.Meaning.{Answer, Fate, add_of, altered, delete_of, fails, grown, lessened, modify_of, works}
 use Rattle.sys.specs.Laws.{In, Untouched}
 use Rattle.sys.proofs.Entries.{changed_here, push_here}
 use Rattle.rules.specs.Files.{Keeps, Sound, Stood}
-use Rattle.rules.specs.Meaning.{Held, Nothing}
+use Rattle.rules.specs.Meaning.{Nothing}
 use Rattle.rules.specs.OneFile.{own_files, under}
 use Rattle.rules.proofs.Files.{Placed, keeps_placed, keeps_same, some_eq, some_none}
 

@@ -1,7 +1,6 @@
 -- What a source does to the polling system: nothing, one call after another, and each call over one file.
-use Rattle.std.proofs.Common.{◌≡◌, ℕ, Bool, List, [], ◌∷◌, ◌++◌, Some, None, Option, sym, refl, ap, ◌∙◌, subst}
+use Rattle.std.proofs.Common.{◌≡◌, ℕ, Bool, List, [], ◌++◌, Some, None, Option, sym, refl, ◌∙◌, subst}
 use Rattle.std.proofs.ByRecursion.{All-append, All-weaker}
-use Rattle.std.specs.List.{AllByRecursion as All}
 use Rattle.token.specs.Refusal.{Outcome, done, refused}
 use Rattle.poller.specs.declared.entry.Mode.{Mode}
 use Rattle.poller.specs.Meaning.{Answer, Fate, add_of, modify_of}

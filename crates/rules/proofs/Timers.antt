@@ -1,6 +1,6 @@
 -- The rule of the timers: nothing done, one call after another, and each call of the wheel.
 use Rattle.std.proofs.Common.{◌≡◌, ℕ, ◌+◌, ◌<◌, ◌≤◌, Bool, true, false, cond, eqb, ltb, leb, ◌⊎◌, List, [], ◌∷◌, length, filter, sym, refl, ap, ◌∙◌, subst, inl, inr, arith}
-use Rattle.std.proofs.lemmas.Bool.{cases_eq, cond-true, cond-false, eq-eqb, eqb-true, false≢true, ltb-true, lt-ltb, true≢false}
+use Rattle.std.proofs.lemmas.Bool.{cond-true, cond-false, eq-eqb, eqb-true, false≢true, ltb-true, lt-ltb, true≢false}
 use Rattle.token.specs.declared.token.Token.{Token}
 use Rattle.token.specs.Key.{key_of}
 use Rattle.token.specs.Refusal.{Outcome, done, refusal}

@@ -1,5 +1,5 @@
 -- What one call of a source comes to: its answer, and all that it leaves.
-use Rattle.std.specs.Prelude.{◌≡◌, ℕ, List}
+use Rattle.std.specs.Prelude.{ℕ, List}
 use Rattle.poller.specs.Meaning.{Answer}
 use Rattle.sys.specs.World.{Exchange, World}
 use Rattle.rules.specs.Meaning.{Drawer}

@@ -1,5 +1,5 @@
 -- What a call of a source may do to the poller's entries.
-use Rattle.std.specs.Prelude.{◌≡◌, ℕ, true, ◌⊎◌, List, Some, None, Option}
+use Rattle.std.specs.Prelude.{◌≡◌, ℕ, true, ◌⊎◌, List, Some, None}
 use Rattle.poller.specs.declared.entry.Entry.{Entry}
 use Rattle.poller.specs.Meaning.{Apart}
 use Rattle.poller.specs.Register.{entry_of}

@@ -1,5 +1,5 @@
 -- The errands of one event: at most eight, and the ninth is refused.
-use Rattle.std.specs.Prelude.{ℕ, cond, List, [], ◌∷◌, ◌++◌, length, vec_items, nat_lt}
+use Rattle.std.specs.Prelude.{cond, List, [], ◌∷◌, ◌++◌, length, vec_items, nat_lt}
 use Rattle.token.specs.Refusal.{done, refusal}
 use Rattle.poller.specs.Meaning.{Answer}
 use Rattle.sources.specs.declared.errand.Errand.{Errand}

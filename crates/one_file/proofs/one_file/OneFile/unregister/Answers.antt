@@ -11,5 +11,5 @@ returns-in-None g c =
 
 pub returns-in-Some : goal.returns-in-Some
 returns-in-Some g c =
-    let k = c.take-out.ensures in
+    let k = c.take_out.ensures in
     (_, k.exchanged, (k.fate, unregister_is c.args.self.now _ _ _ _ _ _ c.in-Some.is k))
