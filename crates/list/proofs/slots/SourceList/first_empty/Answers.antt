@@ -13,7 +13,7 @@ returns-in-Empty g c =
 pub loop-i-preserved : goal.loop-i-preserved
 loop-i-preserved g c =
     let slots = c.args.self.now.slots in
-    empty_more _ c.loop-i.i c.slot-item.result (omega (arith, slots.ok.0, c.deref-slot-items.ensures.len)) (simp c.deref-slot-items.ensures.value at c.slot-item.is) c.in-default.not-Empty c.loop-i.invariant
+    empty_more _ c.loop-i.i c.slot-item.result (omega (arith, slots.ok.0, c.deref-slot-items.ensures.len)) (simp c.deref-slot-items.ensures.value at c.slot-item.is) c.in_default.not-Empty c.loop-i.invariant
 
 pub returns : goal.returns
 returns g c =
