@@ -5,12 +5,12 @@ use Rattle.rules.specs.Calls.{drawn_to}
 use Rattle.rules.specs.Meaning.{Drawer}
 use Rattle.rules.proofs.Drawing.{draw_cases, next_token}
 use Rattle.one_file.specs.Tickets.{DrawnFrom}
-use Rattle.doorbell.specs.Two.{both_keys, draw_two, first_of, then_second, with_second}
+use Rattle.doorbell.specs.Two.{both_keys, draw_two, first_token, then_second, with_second}
 
 -- each of the two was drawn
-pub two_drawn : (d : Drawer) → DrawnFrom first_of both_keys d (draw_two d).0 (draw_two d).1
-two_drawn d = draw_cases d (λ o n. DrawnFrom first_of both_keys d (then_second d o n).0 (then_second d o n).1)
-    (draw_cases (drawn_to d (d.next + 1)) (λ o n. DrawnFrom first_of both_keys d (with_second (next_token d) o) n)
+pub two_drawn : (d : Drawer) → DrawnFrom first_token both_keys d (draw_two d).0 (draw_two d).1
+two_drawn d = draw_cases d (λ o n. DrawnFrom first_token both_keys d (then_second d o n).0 (then_second d o n).1)
+    (draw_cases (drawn_to d (d.next + 1)) (λ o n. DrawnFrom first_token both_keys d (with_second (next_token d) o) n)
     (record {
       forward = omega arith;
       fresh = record {

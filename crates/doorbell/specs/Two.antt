@@ -19,8 +19,8 @@ then_second d (refused k c) n = (refused k c, n)
 abbrev pub draw_two : Drawer → Outcome Tokens × ℕ
 draw_two d = then_second d (draw_of d.id d.version d.next).0 (draw_of d.id d.version d.next).1
 
-abbrev pub first_of : Tokens → Token
-first_of t = t.first
+abbrev pub first_token : Tokens → Token
+first_token t = t.first
 
 abbrev pub both_keys : Tokens → List ℕ
 both_keys t = key_of t.first ∷ key_of t.second ∷ []

@@ -1,6 +1,6 @@
 // The calls of a Doorbell.
 ghost use Rattle.doorbell.specs.Bell.{Counts, wanted};
-ghost use Rattle.doorbell.specs.Two.{both_keys, draw_two, first_of};
+ghost use Rattle.doorbell.specs.Two.{both_keys, draw_two, first_token};
 ghost use Rattle.one_file.specs.Calls.{cleared, meaning, register_by, reregister_by, unregister_by};
 ghost use Rattle.poller.specs.Meaning.{Fate};
 ghost use Rattle.poller.specs.declared.entry.Mode.TheVariants.{Level};
@@ -56,11 +56,11 @@ impl Doorbell {
 }
 
 impl EventSource for Doorbell {
-    ghost means = { λ s. meaning first_of both_keys s.file true };
+    ghost means = { λ s. meaning first_token both_keys s.file true };
 
-    ghost registers = { λ s w d xs r s' w' d'. ((first : Fate) × (second : Fate) × (came xs r s'.file w' d' ≡ register_by first_of draw_two s.file w d first second)) × (s'.count ≡ s.count) };
+    ghost registers = { λ s w d xs r s' w' d'. ((first : Fate) × (second : Fate) × (came xs r s'.file w' d' ≡ register_by first_token draw_two s.file w d first second)) × (s'.count ≡ s.count) };
 
-    ghost reregisters = { λ s w d xs r s' w' d'. ((fate : Fate) × (came xs r s'.file w' d' ≡ reregister_by first_of draw_two s.file s.file.tickets w d fate)) × (s'.count ≡ s.count) };
+    ghost reregisters = { λ s w d xs r s' w' d'. ((fate : Fate) × (came xs r s'.file w' d' ≡ reregister_by first_token draw_two s.file s.file.tickets w d fate)) × (s'.count ≡ s.count) };
 
     ghost unregisters = { λ s w xs r s' w'. ((fate : Fate) × (went xs r s'.file w' ≡ unregister_by s.file s.file.tickets w fate)) × (s'.count ≡ s.count) };
 
@@ -74,13 +74,13 @@ impl EventSource for Doorbell {
 
     ghost sees = { λ s vs s'. s' ≡ s };
 
-    ghost registering = { λ s w d xs r s' w' d' h. registers_lawful first_of both_keys true s.file draw_two two_drawn w d h.0.0 h.0.1 (came xs r s'.file w' d') h.0.2 };
+    ghost registering = { λ s w d xs r s' w' d' h. registers_lawful first_token both_keys true s.file draw_two two_drawn w d h.0.0 h.0.1 (came xs r s'.file w' d') h.0.2 };
 
-    ghost reregistering = { λ s w d xs r s' w' d' h. reregisters_lawful first_of both_keys true s.file draw_two two_drawn w d h.0.0 (came xs r s'.file w' d') h.0.1 };
+    ghost reregistering = { λ s w d xs r s' w' d' h. reregisters_lawful first_token both_keys true s.file draw_two two_drawn w d h.0.0 (came xs r s'.file w' d') h.0.1 };
 
-    ghost unregistering = { λ s w xs r s' w' h. unregisters_lawful first_of both_keys true s.file w h.0.0 (went xs r s'.file w') h.0.1 };
+    ghost unregistering = { λ s w xs r s' w' h. unregisters_lawful first_token both_keys true s.file w h.0.0 (went xs r s'.file w') h.0.1 };
 
-    ghost leaving = { λ s w xs s' w' h. leaves_lawful first_of both_keys true s.file w h.0.0 (went xs (done tt) s'.file w') h.0.1 };
+    ghost leaving = { λ s w xs s' w' h. leaves_lawful first_token both_keys true s.file w h.0.0 (went xs (done tt) s'.file w') h.0.1 };
 
     ghost processing = { Prim.search rules };
 

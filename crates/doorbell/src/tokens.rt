@@ -1,5 +1,5 @@
 // Two tokens, drawn one after the other.
-ghost use Rattle.doorbell.specs.Two.{both_keys, draw_two, first_of};
+ghost use Rattle.doorbell.specs.Two.{both_keys, draw_two, first_token};
 ghost use Rattle.std.proofs.Common.{rules};
 
 use crate::doorbell::Tokens;
@@ -9,7 +9,7 @@ use token::{Error, Token, TokenFactory};
 impl Tickets for Tokens {
     ghost draws = { draw_two };
 
-    ghost main = { first_of };
+    ghost main = { first_token };
 
     ghost keys = { both_keys };
 

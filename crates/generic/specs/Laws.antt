@@ -1,8 +1,8 @@
 -- An event of a Generic keeps the rules of source kinds.
-use Rattle.std.specs.Prelude.{◌≡◌, false, ◌⊎◌, List, [], refl}
+use Rattle.std.specs.Prelude.{◌≡◌, false, List, [], refl}
 use Rattle.std.proofs.Common.{sym, ap, subst, ◌∙◌, inl, inr}
 use Rattle.std.proofs.lemmas.List.{append-nil}
-use Rattle.std.specs.List.{AllByRecursion as All}
+use Rattle.std.specs.List.{AllByRecursion}
 use Rattle.token.specs.declared.token.Token.{Token}
 use Rattle.token.specs.Refusal.{Outcome}
 use Rattle.poller.specs.declared.entry.Readiness.{Readiness}
@@ -27,7 +27,7 @@ module _ {H : Type 0} (handles : H → Readiness → List Errand → Outcome Pos
   pub processes_lawful : Handled handles s x t es w xs r s' w' es' → Processing (means s.file) w t es xs r (means s'.file) w' es'
   processes_lawful h = record {
     world = subst (λ (v : World). v ≡ with_timers w v.wheel) (sym h.1) refl;
-    asks = subst (All Reads) (sym h.0) tt;
+    asks = subst (AllByRecursion Reads) (sym h.0) tt;
     same = elim h.2 [ inl o ↦ ap means o.file | inr o ↦ ap (λ (g : Generic H). means g.file) o.source ];
     timers = timers_same _ [] w.wheel w'.wheel (ap (λ (v : World). v.wheel) h.1);
     errands = elim h.2 [ inl o ↦ (law s.handler x es r s'.handler es' o.handled).0 | inr o ↦ ([], o.errands ∙ sym (append-nil es)) ];

@@ -1,6 +1,6 @@
 -- THE RULES OF SOURCE KINDS: what each call of a source owes.
 use Rattle.std.specs.Prelude.{◌≡◌, ℕ, true, ◌⊎◌, List, [], ◌++◌, is_some, Some, None, Option}
-use Rattle.std.specs.List.{AllByRecursion as All}
+use Rattle.std.specs.List.{AllByRecursion}
 use Rattle.token.specs.declared.token.Token.{Token}
 use Rattle.token.specs.Key.{key_of}
 use Rattle.token.specs.Refusal.{Outcome, done, refused}
@@ -23,7 +23,7 @@ Enters Drew (read n) = Unit {0}
 pub record Reaches (Drew : ℕ → Type 0) (m : Meaning) (w : World) (xs : List Exchange) (m' : Meaning) (w' : World) : Type 0 where
   pub files : Keeps Drew m.held m.entered w.entries m'.held m'.entered w'.entries
   pub timers : Timers Drew m.counters w.wheel m'.counters w'.wheel
-  pub enters : All (Enters Drew) xs
+  pub enters : AllByRecursion (Enters Drew) xs
   -- the level table goes on agreeing with the poller
   pub level : Consistent w.entries w.lines → Consistent w'.entries w'.lines
   pub most : w'.most ≡ w.most
@@ -87,7 +87,7 @@ Faulty (refused n c) = Own n c ⊎ (((n ≡ 9) ⊎ ((n ≡ 16) ⊎ (n ≡ 17))) 
 pub record Processing {E T : Type 0} (m : Meaning) (w : World) (t : Token) (es : List E) (xs : List Exchange) (r : Outcome T) (m' : Meaning) (w' : World) (es' : List E) : Type 0 where
   -- no entry of the poller is touched
   pub world : w' ≡ with_timers w w'.wheel
-  pub asks : All Reads xs
+  pub asks : AllByRecursion Reads xs
   pub same : m' ≡ with_counters m m'.counters
   -- timers are entered under the event's token alone
   pub timers : Timers (λ k. k ≡ key_of t) m.counters w.wheel m'.counters w'.wheel

@@ -1,8 +1,8 @@
 -- A Timer keeps the rules of source kinds.
-use Rattle.std.specs.Prelude.{◌≡◌, ℕ, ◌+◌, ◌^◌, Bool, true, false, cond, ◌⊎◌, List, [], ◌∷◌, Some, None, Option, nat_lt, refl}
+use Rattle.std.specs.Prelude.{◌≡◌, ℕ, ◌+◌, ◌^◌, Bool, true, false, cond, List, [], ◌∷◌, Some, None, Option, nat_lt, refl}
 use Rattle.std.proofs.Common.{sym, ap, subst, ◌∙◌, inl, inr}
 use Rattle.std.proofs.lemmas.List.{append-nil}
-use Rattle.std.specs.List.{AllByRecursion as All}
+use Rattle.std.specs.List.{AllByRecursion}
 use Rattle.token.specs.declared.token.Token.{Token}
 use Rattle.token.specs.Key.{key_of}
 use Rattle.token.specs.Refusal.{Outcome, done, refused, refusal}
@@ -13,9 +13,9 @@ use Rattle.sys.specs.Laws.{In}
 use Rattle.sys.specs.World.{Exchange, World, read, with_timers}
 use Rattle.rules.specs.Calls.{Came, Went, drawn_to}
 use Rattle.rules.specs.Kinds.{Faulty, Grown, LettingGo, Processing, Reaches, Reads, Registering, Reregistering, Unregistering}
-use Rattle.rules.specs.Meaning.{Drawer, Drawn, Meaning, Nothing}
+use Rattle.rules.specs.Meaning.{Drawer, Drawn, Nothing}
 use Rattle.rules.specs.Timers.{Timers}
-use Rattle.rules.proofs.Drawing.{draw_cases, drawn_key, next_token, none_drawn, not_done, stays_put, steps_on}
+use Rattle.rules.proofs.Drawing.{draw_cases, drawn_key, next_token, none_drawn, stays_put, steps_on}
 use Rattle.rules.proofs.Files.{keeps_same}
 use Rattle.rules.proofs.Steps.{reaches_then}
 use Rattle.rules.proofs.Timers.{cancel_timers, insert_cases, insert_timers, reuse_cases, reuse_timers, timers_fewer, timers_same}
@@ -24,7 +24,7 @@ use Rattle.timer.specs.declared.timer.Registration.{Registration}
 use Rattle.timer.specs.declared.timer.TimeoutAction.{TimeoutAction}
 use Rattle.timer.specs.declared.timer.TimeoutAction.TheVariants.{Drop, ToInstant, ToDuration}
 use Rattle.timer.specs.declared.timer.Timer.{Timer}
-use Rattle.timer.specs.Calls.{Other, Own, Rang, Rung, cancel_by, counters_of, drawn, inserted, meaning, rang, register_by, reregister_by, ringing, rung_by, set_at, set_to, wheel_after, with_registration}
+use Rattle.timer.specs.Calls.{Rang, Rung, cancel_by, counters_of, drawn, inserted, meaning, rang, register_by, reregister_by, ringing, rung_by, set_at, set_to, wheel_after, with_registration}
 
 module _ {H : Type 0} where
   -- only the timers changed
@@ -118,10 +118,10 @@ module _ {H : Type 0} where
     Event k = k ≡ key_of t
 
     -- the wheel stays
-    stays : (h : H) (deadline : Option ℕ) (r : Outcome PostAction) (xs : List Exchange) → Faulty r → All Reads xs → Rings (rang xs r (ringing s h deadline) w)
+    stays : (h : H) (deadline : Option ℕ) (r : Outcome PostAction) (xs : List Exchange) → Faulty r → AllByRecursion Reads xs → Rings (rang xs r (ringing s h deadline) w)
     stays h deadline r xs f a = record { world = refl; asks = a; same = refl; timers = timers_same Event _ w.wheel w.wheel refl; errands = grown; faults = f }
 
-    sets : (x : Registration) (h : H) (next : ℕ) (xs : List Exchange) → s.registration ≡ Some x → x.token ≡ t → All Reads xs → Rings (set_at s x h next w xs)
+    sets : (x : Registration) (h : H) (next : ℕ) (xs : List Exchange) → s.registration ≡ Some x → x.token ≡ t → AllByRecursion Reads xs → Rings (set_at s x h next w xs)
     sets x h next xs e k a =
         let mine : In x.counter (counters_of s.registration) = subst (λ (o : Option Registration). In x.counter (counters_of o)) (sym e) (inl refl) in
         reuse_cases x.counter next x.token w.wheel (λ o t'. Rings (set_to s h next w xs o t'))
