@@ -43,7 +43,8 @@ pub fn perform(bench: &mut Bench, form: Option<Form>, out: &mut String) -> fmt::
 
 fn write_refusal(error: Error, out: &mut String) -> fmt::Result {
     let number = error.number();
-    write!(out, "(no {number})")
+    write!(out, "(no {number})")?;
+    Ok(())
 }
 
 // A source that comes back holds nothing, and ends here.
@@ -52,7 +53,8 @@ fn write_insert(answer: Result<Token, InsertError<Source>>, out: &mut String) ->
         Ok(token) => {
             let id = token.id;
             let version = token.version;
-            write!(out, "(ok {id} {version})")
+            write!(out, "(ok {id} {version})")?;
+            Ok(())
         }
         Err(InsertError { inserted, error }) => {
             inserted.end();
@@ -81,5 +83,6 @@ fn write_line(line: Line, out: &mut String) -> fmt::Result {
         Verdict::Lost => 'l',
     };
     let key = line.key;
-    write!(out, " ({class} {key} {verdict})")
+    write!(out, " ({class} {key} {verdict})")?;
+    Ok(())
 }

@@ -6,7 +6,7 @@ use Rattle.std.proofs.lemmas.List.{flat_map_more, set-get_or}
 use Rattle.std.proofs.lemmas.List.Sums.{sum_by-set, count_by-le-length}
 use Rattle.std.proofs.lemmas.Bool.{true≢false, false≢true, eqb-true, eqb-false, eq-eqb, ne_eqb, cases_eq}
 use Rattle.std.specs.Option.{option_map, option_to_list}
-use Rattle.std.specs.List.{AllByRecursion as All}
+use Rattle.std.specs.List.{AllByRecursion}
 use Rattle.poller.specs.declared.entry.Entry.{Entry}
 use Rattle.poller.specs.declared.entry.Event.{Event}
 use Rattle.poller.specs.declared.entry.Mode.{Mode}
@@ -173,7 +173,7 @@ marks_room ms i d lt e = omega (arith, marks_count ms i d lt e, count_by-le-leng
 
 -- files that are reported: no file twice, and each may be
 abbrev pub Good : List Entry → List ℕ → Type 0
-Good es fs = Apart fs × All (λ (f : ℕ). ripe (entry_of f es) ≡ true) fs
+Good es fs = Apart fs × AllByRecursion (λ (f : ℕ). ripe (entry_of f es) ≡ true) fs
 
 apart_push : (fs : List ℕ) (f : ℕ) → Apart fs → among f fs ≡ false → Apart (fs ++ f ∷ [])
 apart_push [] f a no' = (refl, tt)
@@ -191,7 +191,7 @@ both : (a b : Bool) → cond a b false ≡ true → (a ≡ true) × (b ≡ true)
 both true b e = (refl, e)
 both false b e = absurd (false≢true e)
 
-pub all_tell : (es : List Entry) (fs : List ℕ) → All (λ (f : ℕ). ripe (entry_of f es) ≡ true) fs → AllTell es fs (events_of es fs)
+pub all_tell : (es : List Entry) (fs : List ℕ) → AllByRecursion (λ (f : ℕ). ripe (entry_of f es) ≡ true) fs → AllTell es fs (events_of es fs)
 all_tell es [] a = tt
 all_tell es (f ∷ fs) a = at (entry_of f es) refl a.0 (all_tell es fs a.1)
   where

@@ -1,6 +1,6 @@
 -- The laws of entry and expiry.
 use Rattle.std.proofs.Common.{◌≡◌, ℕ, ◌<◌, ◌≤◌, Bool, true, false, cond, eqb, ltb, leb, List, [], ◌∷◌, ◌++◌, map, Some, None, filter, Option, sym, refl, ap, ◌∙◌, subst, inl, inr, arith}
-use Rattle.std.specs.List.{AllByRecursion as All}
+use Rattle.std.specs.List.{AllByRecursion}
 use Rattle.std.proofs.lemmas.List.Elements.{filter-append}
 use Rattle.std.proofs.ByRecursion.{All-weaker, all_kept_by}
 use Rattle.std.proofs.lemmas.List.{append-nil}
@@ -13,11 +13,11 @@ use Rattle.timer_wheel.specs.Laws.{Joins, Exact, Drains, alike, due_by, due_afte
 use Rattle.timer_wheel.proofs.Order.{Ordered, ordered, rising}
 
 -- no entry of a list passes the test, or each does
-none_kept : (p : TimeoutData → Bool) (xs : List TimeoutData) → All (λ y. p y ≡ false) xs → filter p xs ≡ []
+none_kept : (p : TimeoutData → Bool) (xs : List TimeoutData) → AllByRecursion (λ y. p y ≡ false) xs → filter p xs ≡ []
 none_kept p [] a = refl
 none_kept p (x ∷ xs) a = cond-false (p x) _ _ a.0 ∙ none_kept p xs a.1
 
-all_kept : (p : TimeoutData → Bool) (xs : List TimeoutData) → All (λ y. p y ≡ true) xs → filter p xs ≡ xs
+all_kept : (p : TimeoutData → Bool) (xs : List TimeoutData) → AllByRecursion (λ y. p y ≡ true) xs → filter p xs ≡ xs
 all_kept p [] a = refl
 all_kept p (x ∷ xs) a = cond-true (p x) _ _ a.0 ∙ ap (λ (r : List TimeoutData). x ∷ r) (all_kept p xs a.1)
 
@@ -31,13 +31,13 @@ ordered_kept p (x ∷ xs) o = at (p x) (ordered_kept p xs o.1)
     at false r = r
 
 -- behind an entry that is due later than n, all are
-all_later : (n : ℕ) (x : TimeoutData) (xs : List TimeoutData) → n < x.deadline → All (λ y. x.deadline ≤ y.deadline) xs → All (λ y. n < y.deadline) (x ∷ xs)
+all_later : (n : ℕ) (x : TimeoutData) (xs : List TimeoutData) → n < x.deadline → AllByRecursion (λ y. x.deadline ≤ y.deadline) xs → AllByRecursion (λ y. n < y.deadline) (x ∷ xs)
 all_later n x xs lt a = (lt, All-weaker (λ (y : TimeoutData). x.deadline ≤ y.deadline) (λ (y : TimeoutData). n < y.deadline) (λ y h. omega arith) xs a)
 
-none_due : (n : ℕ) (xs : List TimeoutData) → All (λ y. n < y.deadline) xs → due_by n xs ≡ []
+none_due : (n : ℕ) (xs : List TimeoutData) → AllByRecursion (λ y. n < y.deadline) xs → due_by n xs ≡ []
 none_due n xs a = none_kept _ xs (All-weaker (λ (y : TimeoutData). n < y.deadline) (λ (y : TimeoutData). leb y.deadline n ≡ false) (λ y h. lt-leb y.deadline n h) xs a)
 
-all_left : (n : ℕ) (xs : List TimeoutData) → All (λ y. n < y.deadline) xs → due_after n xs ≡ xs
+all_left : (n : ℕ) (xs : List TimeoutData) → AllByRecursion (λ y. n < y.deadline) xs → due_after n xs ≡ xs
 all_left n xs a = all_kept _ xs (All-weaker (λ (y : TimeoutData). n < y.deadline) (λ (y : TimeoutData). ltb n y.deadline ≡ true) (λ y h. lt-ltb n y.deadline h) xs a)
 
 abbrev wheel : ℕ → List TimeoutData → Wheel
@@ -97,7 +97,7 @@ exact n w r =
     }
 
 -- a newcomer between what is due no later and what is later comes last among its equals
-queued : (x : TimeoutData) (front back : List TimeoutData) → All (λ y. x.deadline < y.deadline) back → (d : ℕ)
+queued : (x : TimeoutData) (front back : List TimeoutData) → AllByRecursion (λ y. x.deadline < y.deadline) back → (d : ℕ)
     → alike d (front ++ x ∷ back) ≡ alike d (front ++ back) ++ alike d (x ∷ [])
 queued x front back later d =
     let p = λ (y : TimeoutData). eqb y.deadline d in
@@ -121,7 +121,7 @@ queued x front back later d =
     ]
 
 between : (x : TimeoutData) (xs ys front back : List TimeoutData) → xs ≡ front ++ back → ys ≡ front ++ x ∷ back
-    → All (λ y. y.deadline ≤ x.deadline) front → All (λ y. x.deadline < y.deadline) back → Joins x xs ys
+    → AllByRecursion (λ y. y.deadline ≤ x.deadline) front → AllByRecursion (λ y. x.deadline < y.deadline) back → Joins x xs ys
 between x xs ys front back were are sooner later =
     record {
       front = front;

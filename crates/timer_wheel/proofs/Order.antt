@@ -1,6 +1,6 @@
 -- Every change of the list keeps it in rising order.
 use Rattle.std.proofs.Common.{◌≡◌, ℕ, zero, suc, ◌≤◌, Bool, true, false, cond, eqb, ltb, List, [], ◌∷◌, sym, refl, subst, arith}
-use Rattle.std.specs.List.{AllByRecursion as All}
+use Rattle.std.specs.List.{AllByRecursion}
 use Rattle.std.proofs.ByRecursion.{All-weaker, All-get_or}
 use Rattle.std.proofs.lemmas.Bool.{ltb-true, ltb-false}
 use Rattle.timer_wheel.specs.declared.timeout.TimeoutData.{TimeoutData}
@@ -9,13 +9,13 @@ use Rattle.timer_wheel.specs.Entries.{Rising, enter, without}
 -- rising order of each entry with all behind it, by recursion
 abbrev pub Ordered : List TimeoutData → Type 0
 Ordered [] = Unit {0}
-Ordered (x ∷ xs) = All (λ y. x.deadline ≤ y.deadline) xs × Ordered xs
+Ordered (x ∷ xs) = AllByRecursion (λ y. x.deadline ≤ y.deadline) xs × Ordered xs
 
 rising_tail : (x : TimeoutData) (xs : List TimeoutData) → Rising (x ∷ xs) → Rising xs
 rising_tail x xs r i d lt = r (suc i) d (omega arith)
 
 -- x is due no later than y, nor y than what stands behind it
-reaches : (x y : TimeoutData) (ys : List TimeoutData) → x.deadline ≤ y.deadline → All (λ z. y.deadline ≤ z.deadline) ys → All (λ z. x.deadline ≤ z.deadline) (y ∷ ys)
+reaches : (x y : TimeoutData) (ys : List TimeoutData) → x.deadline ≤ y.deadline → AllByRecursion (λ z. y.deadline ≤ z.deadline) ys → AllByRecursion (λ z. x.deadline ≤ z.deadline) (y ∷ ys)
 reaches x y ys le a = (le, All-weaker (λ (z : TimeoutData). y.deadline ≤ z.deadline) (λ (z : TimeoutData). x.deadline ≤ z.deadline) (λ z h. omega arith) ys a)
 
 pub ordered : (xs : List TimeoutData) → Rising xs → Ordered xs
@@ -30,11 +30,11 @@ rising [] o i d lt = absurd (omega arith)
 rising (x ∷ xs) o zero d lt = All-get_or (λ (y : TimeoutData). x.deadline ≤ y.deadline) xs zero d (omega arith) o.0
 rising (x ∷ xs) o (suc i) d lt = rising xs o.1 i d (omega arith)
 
-all_without : (P : TimeoutData → Type 0) (k : ℕ) (xs : List TimeoutData) → All P xs → All P (without k xs)
+all_without : (P : TimeoutData → Type 0) (k : ℕ) (xs : List TimeoutData) → AllByRecursion P xs → AllByRecursion P (without k xs)
 all_without P k [] a = tt
 all_without P k (x ∷ xs) a = at (eqb x.counter k) (all_without P k xs a.1)
   where
-    at : (b : Bool) → All P (without k xs) → All P (cond b (without k xs) (x ∷ without k xs))
+    at : (b : Bool) → AllByRecursion P (without k xs) → AllByRecursion P (cond b (without k xs) (x ∷ without k xs))
     at true r = r
     at false r = (a.0, r)
 
@@ -46,11 +46,11 @@ ordered_without k (x ∷ xs) o = at (eqb x.counter k) (ordered_without k xs o.1)
     at true r = r
     at false r = (all_without (λ (y : TimeoutData). x.deadline ≤ y.deadline) k xs o.0, r)
 
-all_enter : (P : TimeoutData → Type 0) (x : TimeoutData) (xs : List TimeoutData) → P x → All P xs → All P (enter x xs)
+all_enter : (P : TimeoutData → Type 0) (x : TimeoutData) (xs : List TimeoutData) → P x → AllByRecursion P xs → AllByRecursion P (enter x xs)
 all_enter P x [] p a = (p, tt)
 all_enter P x (y ∷ ys) p a = at (ltb x.deadline y.deadline) (all_enter P x ys p a.1)
   where
-    at : (b : Bool) → All P (enter x ys) → All P (cond b (x ∷ y ∷ ys) (y ∷ enter x ys))
+    at : (b : Bool) → AllByRecursion P (enter x ys) → AllByRecursion P (cond b (x ∷ y ∷ ys) (y ∷ enter x ys))
     at true r = (p, a)
     at false r = (a.0, r)
 

@@ -1,6 +1,6 @@
 -- The laws above the calls: where a newcomer stands, and what expiry takes in all.
 use Rattle.std.specs.Prelude.{◌≡◌, ℕ, ◌<◌, ◌≤◌, List, [], ◌∷◌, ◌++◌, map, Some, None, filter, nat_eq, nat_le, nat_lt}
-use Rattle.std.specs.List.{AllByRecursion as All}
+use Rattle.std.specs.List.{AllByRecursion}
 use Rattle.token.specs.declared.token.Token.{Token}
 use Rattle.timer_wheel.specs.declared.timeout.TimeoutData.{TimeoutData}
 use Rattle.timer_wheel.specs.Entries.{Rising}
@@ -16,8 +16,8 @@ pub record Joins (x : TimeoutData) (xs ys : List TimeoutData) : Type 0 where
   pub back : List TimeoutData
   pub were : xs ≡ front ++ back
   pub are : ys ≡ front ++ x ∷ back
-  pub sooner : All (λ y. y.deadline ≤ x.deadline) front
-  pub later : All (λ y. x.deadline < y.deadline) back
+  pub sooner : AllByRecursion (λ y. y.deadline ≤ x.deadline) front
+  pub later : AllByRecursion (λ y. x.deadline < y.deadline) back
   -- so equal deadlines stand in order of entry
   pub queues : (d : ℕ) → alike d ys ≡ alike d xs ++ alike d (x ∷ [])
 
