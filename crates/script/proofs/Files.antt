@@ -16,6 +16,9 @@ pub record Progress (text rest fs : List ℕ) : Type 0 where
   pub forth : (h : ℕ) (hs : List ℕ) → Lists (h ∷ hs) rest → Lists (fs ++ (h ∷ hs)) text
   pub back : (gs : List ℕ) → Lists gs text → SomeFiles rest
 
+pub lists_none : (text : List ℕ) → text ≡ 41 ∷ (41 ∷ []) → Lists [] text
+lists_none text e = record { fits = tt; is = sym e }
+
 on_stops : (hs : List ℕ) → Stops (spaced_on hs ++ codes "))")
 on_stops [] = bracket_stops
 on_stops (h ∷ hs) = space_stops
@@ -24,6 +27,15 @@ on_stops (h ∷ hs) = space_stops
 pub number_first : (text : List ℕ) (h : ℕ) (hs : List ℕ) → Lists (h ∷ hs) text → Number 32 text h (spaced_on hs ++ codes "))")
 number_first text h hs l =
     record { reads = sym l.is ∙ append_assoc (decimal h) (spaced_on hs) (codes "))"); fits = l.fits.0; stops = on_stops hs }
+
+back_begin : (text : List ℕ) → (text ≡ 41 ∷ (41 ∷ []) → ⊥) → (gs : List ℕ) → Lists gs text → SomeFiles text
+back_begin text some [] l = absurd (some (sym l.is))
+back_begin text some (g ∷ gs) l = record { first = g; others = gs; lists = l }
+
+-- nothing is read yet
+pub begin : (text fs : List ℕ) → fs ≡ [] → (text ≡ 41 ∷ (41 ∷ []) → ⊥) → Progress text text fs
+begin text fs e some =
+    record { forth = λ h hs l. rw e l; back = back_begin text some }
 
 -- what stands after the first file
 after_first : (rest : List ℕ) (f : ℕ) (after : List ℕ) → Number 32 rest f after → (s : SomeFiles rest) → after ≡ spaced_on s.others ++ codes "))"
@@ -52,6 +64,13 @@ step text rest fs f after more gs p q e g =
       forth = λ h hs l. rw (g, append_assoc fs (f ∷ []) (h ∷ hs)) (p.forth f (h ∷ hs) (forth_step rest f after more q e h hs l));
       back = λ ks l. let s = p.back ks l in back_step after more e s.others s.lists.fits.1 (after_first rest f after q s);
     }
+
+-- a file, then the brackets
+pub finish : (text rest fs : List ℕ) (f : ℕ) (after gs : List ℕ) → Progress text rest fs → Number 32 rest f after → after ≡ 41 ∷ (41 ∷ []) → gs ≡ fs ++ (f ∷ []) → Lists gs text
+finish text rest fs f after gs p q e g =
+    let a = append_assoc (decimal f) [] (codes "))") in
+    let b = q.reads in
+    rw g (p.forth f [] (record { fits = (q.fits, tt); is = cc }))
 
 -- no file
 pub refused_none : (text rest fs : List ℕ) → Progress text rest fs → NoNumber 32 rest → NoList text

@@ -45,6 +45,11 @@ timer_line text (timer d p) w =
 timer_line text (generic f a) w = absurd (other 71 84 _ _ _ refl w.is refl)
 timer_line text (wait c fs) w = absurd (other 87 84 _ _ _ refl w.is refl)
 
+pub timer_no_deadline : (text : List ℕ) → NoNumber 64 text → NoForm (codes "(T " ++ text)
+timer_no_deadline text h g w =
+    let v = timer_line text g w in
+    no_number 64 text v.deadline 32 _ h v.deadline_fits space_stops v.reads
+
 pub timer_no_space : (text : List ℕ) (m : ℕ) (rest : List ℕ) → Number 64 text m rest → ((s : List ℕ) → rest ≡ 32 ∷ s → ⊥) → NoForm (codes "(T " ++ text)
 timer_no_space text m rest q h g w =
     let v = timer_line text g w in
@@ -87,6 +92,11 @@ generic_line text (generic f a) w =
     let e = w.is in
     record { file = f; action = a; is = refl; file_fits = w.fits; reads = cc }
 generic_line text (wait c fs) w = absurd (other 87 71 _ _ _ refl w.is refl)
+
+pub generic_no_file : (text : List ℕ) → NoNumber 32 text → NoForm (codes "(G " ++ text)
+generic_no_file text h g w =
+    let v = generic_line text g w in
+    no_number 32 text v.file 32 _ h v.file_fits space_stops v.reads
 
 pub generic_no_end : (text : List ℕ) (m : ℕ) (rest : List ℕ) → Number 32 text m rest → ((l : ℕ) → rest ≡ 32 ∷ (l ∷ (41 ∷ [])) → ⊥) → NoForm (codes "(G " ++ text)
 generic_no_end text m rest q h g w =
@@ -135,6 +145,11 @@ pub wait_no_open : (text : List ℕ) (m : ℕ) (rest : List ℕ) → Number 64 t
 wait_no_open text m rest q h g w =
     let v = wait_line text g w in
     h v.end (after_number text m rest q v.clock 32 _ v.clock_fits space_stops v.reads).1
+
+pub wait_no_clock : (text : List ℕ) → NoNumber 64 text → NoForm (codes "(W " ++ text)
+wait_no_clock text h g w =
+    let v = wait_line text g w in
+    no_number 64 text v.clock 32 _ h v.clock_fits space_stops v.reads
 
 pub wait_no_list : (text : List ℕ) (m : ℕ) (rest more : List ℕ) → Number 64 text m rest → rest ≡ 32 ∷ (40 ∷ more) → NoList more → NoForm (codes "(W " ++ text)
 wait_no_list text m rest more q o h g w =

@@ -1,7 +1,7 @@
 -- Lemmas on numbers as text.
 use Rattle.std.proofs.Common.{◌≡◌, ℕ, ◌+◌, ◌-◌, ◌*◌, ◌^◌, ◌<◌, ◌≤◌, ◌⊎◌, List, [], ◌∷◌, ◌++◌, length, get_or, take, drop, decimal, sym, refl, ap, ◌∙◌, subst, ⊎_elim, arith, rules}
 use Rattle.std.proofs.lemmas.Str.Parse.{IsNumeralModel, numerals_by_fold, tells_by_index}
-use Rattle.std.proofs.lemmas.List.{at_drop_more, drop_more, drop_all, get_or-take}
+use Rattle.std.proofs.lemmas.List.{at_drop_more, at_drop_all, drop_more, drop_all, get_or-take, length-append}
 use Rattle.std.proofs.lemmas.Fmt.{digits_decimal, digits_value-decimal, decimal-digits_value, decimal_nonempty, first_decimal, decimal_digit, decimal_injective}
 use Rattle.std.proofs.lemmas.Bool.{cases_lt}
 use Rattle.script.specs.Number.{Digit, Digits, Stops, value_after, value, Number, NoNumber}
@@ -20,6 +20,10 @@ value_step n ds i h = at_drop_more (value_after n) ds i 0 h
 
 pub value_least : (n : ℕ) (ds : List ℕ) (i : ℕ) → i < length ds → n * 10 + (get_or ds i 0 - 48) ≤ value_after n (drop i ds)
 value_least n ds i h = rw (value_step n ds i h) (value_after_ge (n * 10 + (get_or ds i 0 - 48)) (drop (i + 1) ds))
+
+-- no digit more
+pub value_end : (n : ℕ) (ds : List ℕ) (i : ℕ) → length ds ≤ i → value_after n (drop i ds) ≡ n
+value_end n ds i h = at_drop_all (value_after n) ds i h
 
 -- the text is digits, and then what does not go on with one
 pub record Split (text ds rest : List ℕ) : Type 0 where
@@ -98,3 +102,8 @@ number_unique text m n r s p q =
 pub refused_file : (text : List ℕ) (m : ℕ) (r : List ℕ) → Number 64 text m r → (m < 2 ^ 32 → ⊥) → NoNumber 32 text
 refused_file text m r p large n s q =
     large (rw (number_unique text m n r s p (wider text n s q)).0 q.fits)
+
+pub rest_shorter : (text : List ℕ) (n : ℕ) (rest : List ℕ) → Number 32 text n rest → length rest < length text
+rest_shorter text n rest q =
+    let q' = wider text n rest q in
+    omega (arith, ap length q.reads ∙ length-append (decimal n) rest, decimal_nonempty n q'.fits)

@@ -11,10 +11,22 @@ begins_two [] a b l e f = absurd (omega arith)
 begins_two (x ∷ []) a b l e f = absurd (omega arith)
 begins_two (x ∷ (y ∷ xs)) a b l e f = let t = take_rest (x ∷ (y ∷ xs)) 2 in cc
 
+pub begins_three : (xs : List ℕ) (a b c : ℕ) → 2 < length xs → get_or xs 0 0 ≡ a → get_or xs 1 0 ≡ b → get_or xs 2 0 ≡ c → xs ≡ a ∷ (b ∷ (c ∷ take (length xs - 3) (drop 3 xs)))
+begins_three [] a b c l e f g = absurd (omega arith)
+begins_three (x ∷ []) a b c l e f g = absurd (omega arith)
+begins_three (x ∷ (y ∷ [])) a b c l e f g = absurd (omega arith)
+begins_three (x ∷ (y ∷ (z ∷ xs))) a b c l e f g = let t = take_rest (x ∷ (y ∷ (z ∷ xs))) 3 in cc
+
 pub is_one : (xs : List ℕ) (a : ℕ) → length xs ≡ 1 → get_or xs 0 0 ≡ a → xs ≡ a ∷ []
 is_one [] a l e = absurd (omega arith)
 is_one (x ∷ []) a l e = cc
 is_one (x ∷ (y ∷ xs)) a l e = absurd (omega arith)
+
+pub is_two : (xs : List ℕ) (a b : ℕ) → length xs ≡ 2 → get_or xs 0 0 ≡ a → get_or xs 1 0 ≡ b → xs ≡ a ∷ (b ∷ [])
+is_two [] a b l e f = absurd (omega arith)
+is_two (x ∷ []) a b l e f = absurd (omega arith)
+is_two (x ∷ (y ∷ [])) a b l e f = cc
+is_two (x ∷ (y ∷ (z ∷ xs))) a b l e f = absurd (omega arith)
 
 pub is_three : (xs : List ℕ) (a b c : ℕ) → length xs ≡ 3 → get_or xs 0 0 ≡ a → get_or xs 1 0 ≡ b → get_or xs 2 0 ≡ c → xs ≡ a ∷ (b ∷ (c ∷ []))
 is_three [] a b c l e f g = absurd (omega arith)

@@ -1,12 +1,34 @@
-use Rattle.std.proofs.Common.{rules}
-use Rattle.script.proofs.Shapes.{begins_one, begins_not_one, is_not_two}
-use Rattle.script.proofs.Files.{step, refused_none, refused_after}
+use Rattle.std.proofs.Common.{◌-◌, length, drop, arith, rules}
+use Rattle.std.proofs.lemmas.List.{length-take}
+use Rattle.script.proofs.Reading.{rest_shorter}
+use Rattle.script.proofs.Shapes.{begins_one, begins_not_one, is_two, is_not_two}
+use Rattle.script.proofs.Files.{begin, step, finish, refused_none, refused_after, lists_none}
 use Rattle.script.proofs.read_files.Goals as goal
+
+pub loop-file-smaller : goal.loop-file-smaller
+loop-file-smaller c =
+    let after = c.in-Some.after.now in
+    omega (arith, rest_shorter c.loop-file.rest.now c.in-Some.file after c.in-Some.ensures, length-take (length after - 1) (drop 1 after))
+
+pub loop-file-init : goal.loop-file-init
+loop-file-init c =
+    begin c.args.text.now _ c.new-files.ensures.items (is_not_two c.args.text.now 41 41 (search rules))
 
 pub loop-file-preserved : goal.loop-file-preserved
 loop-file-preserved c =
     step c.args.text.now c.loop-file.rest.now _ c.in-Some.file c.in-Some.after.now _ _ c.loop-file.invariant c.in-Some.ensures
     (begins_one c.in-Some.after.now 32 (search rules) (search rules))
+    c.in_ok-push.ensures.items
+
+pub returns-in-41 : goal.returns-in-41
+returns-in-41 c =
+    rw c.new-files.ensures.items
+    (lists_none c.args.text.now (is_two c.args.text.now 41 41 (search rules) (search rules) (search rules)))
+
+pub returns-in-41-after : goal.returns-in-41-after
+returns-in-41-after c =
+    finish c.args.text.now c.loop-file.rest.now _ c.in-Some.file c.in-Some.after.now _ c.loop-file.invariant c.in-Some.ensures
+    (is_two c.in-Some.after.now 41 41 (search rules) (search rules) (search rules))
     c.in_ok-push.ensures.items
 
 pub returns-in_default-after : goal.returns-in_default-after

@@ -1,8 +1,11 @@
 use Rattle.std.proofs.Common.{get_or, refl, rules}
 use Rattle.script.proofs.Shapes.{is_three, is_not_three}
 use Rattle.script.proofs.Unique.{the_form}
-use Rattle.script.proofs.Lines.{generic_no_end, generic_no_action, generic_read}
+use Rattle.script.proofs.Lines.{generic_no_file, generic_no_end, generic_no_action, generic_read}
 use Rattle.script.proofs.read_generic.Goals as goal
+
+pub returns-in_err-file : goal.returns-in_err-file
+returns-in_err-file c = rw c.from_residual.ensures (generic_no_file c.args.text.now c.in_err-file.ensures)
 
 pub returns-in_default : goal.returns-in_default
 returns-in_default c =

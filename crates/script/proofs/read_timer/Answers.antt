@@ -1,8 +1,11 @@
 use Rattle.std.proofs.Common.{rules}
 use Rattle.script.proofs.Shapes.{begins_one, begins_not_one, is_one, is_not_one}
 use Rattle.script.proofs.Unique.{the_form}
-use Rattle.script.proofs.Lines.{timer_no_space, timer_no_period, timer_no_end, timer_read}
+use Rattle.script.proofs.Lines.{timer_no_deadline, timer_no_space, timer_no_period, timer_no_end, timer_read}
 use Rattle.script.proofs.read_timer.Goals as goal
+
+pub returns-in_err-deadline : goal.returns-in_err-deadline
+returns-in_err-deadline c = rw c.from_residual.ensures (timer_no_deadline c.args.text.now c.in_err-deadline.ensures)
 
 pub returns-in_default : goal.returns-in_default
 returns-in_default c =

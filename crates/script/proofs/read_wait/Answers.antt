@@ -2,8 +2,11 @@ use Rattle.std.proofs.Common.{rules}
 use Rattle.std.proofs.lemmas.Option.{MatchOption-at_some, MatchOption-at_none}
 use Rattle.script.proofs.Shapes.{begins_two, begins_not_two}
 use Rattle.script.proofs.Unique.{the_form}
-use Rattle.script.proofs.Lines.{wait_no_open, wait_no_list, wait_read}
+use Rattle.script.proofs.Lines.{wait_no_clock, wait_no_open, wait_no_list, wait_read}
 use Rattle.script.proofs.read_wait.Goals as goal
+
+pub returns-in_default : goal.returns-in_default
+returns-in_default c = wait_no_clock c.args.text.now c.in_default.ensures
 
 pub returns-in_default-rest : goal.returns-in_default-rest
 returns-in_default-rest c =
