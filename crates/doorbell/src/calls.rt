@@ -13,10 +13,10 @@ ghost use Rattle.doorbell.specs.Laws.{two_drawn};
 ghost use Rattle.std.proofs.Common.{rules};
 
 use crate::doorbell::Doorbell;
+use kinds::{Errand, Errands, EventSource, Reply};
 use one_file::OneFile;
 use poller::{Interest, Mode, Poller, Readiness};
 use post_action::PostAction;
-use sources::{Errand, Errands, EventSource, Reply};
 use sys::{Clock, Poll, PollEvent};
 use token::{Error, Token, TokenFactory};
 

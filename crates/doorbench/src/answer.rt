@@ -1,14 +1,12 @@
 // The answer to a line, as text.
 use crate::bench::{Bench, Fixed, Repeat, Setting, Source};
 use event_loop::{InsertError, Line, Verdict};
-use generic::Generic;
 use poller::{Interest, Mode};
 use script::Form;
-use sources::{Either, EventSource};
+use sources::{Either, EventSource, Generic, Timer};
 use std::fmt;
 use std::fmt::Write;
 use sys::{Class, Environment};
-use timer::Timer;
 use token::{Error, Token};
 
 // Does what the line asks for, and writes the answer.

@@ -1,16 +1,11 @@
 // The sources, the clock and the surroundings that a script speaks of.
-ghost use Rattle.doorbench.specs.Handlers.{repeated};
-ghost use Rattle.token.specs.Refusal.{done};
 ghost use Rattle.std.specs.Prelude.{◌≡◌};
-ghost use Rattle.std.proofs.Common.{rules};
 
 use event_loop::EventLoop;
-use generic::{Generic, GenericHandler};
 use poller::{BenchPoller, Readiness};
 use post_action::PostAction;
-use sources::{Either, Errands};
+use sources::{Either, Generic, GenericHandler, TimeoutAction, Timer, TimerHandler};
 use sys::{Clock, Environment};
-use timer::{TimeoutAction, Timer, TimerHandler};
 use token::Error;
 
 // Answers every event of its file alike.
@@ -20,15 +15,7 @@ pub struct Fixed {
 }
 
 impl GenericHandler for Fixed {
-    ghost handles = { λ h x es r h' es'. (r ≡ done h.action) × (h' ≡ h) × (es' ≡ es) };
-
-    ghost handling = { Prim.search rules };
-
-    fn handle(
-        &mut self,
-        _readiness: Readiness,
-        _errands: &mut Errands,
-    ) -> Result<PostAction, Error> {
+    fn handle(&mut self, _readiness: Readiness) -> Result<PostAction, Error> {
         Ok(self.action)
     }
 }
@@ -40,11 +27,7 @@ pub struct Repeat {
 }
 
 impl TimerHandler for Repeat {
-    ghost rings = { λ h d es r h' es'. (r ≡ repeated h.period) × (h' ≡ h) × (es' ≡ es) };
-
-    ghost ringing = { Prim.search rules };
-
-    fn ring(&mut self, _deadline: u64, _errands: &mut Errands) -> TimeoutAction {
+    fn ring(&mut self, _deadline: u64) -> TimeoutAction {
         if self.period == 0 {
             return TimeoutAction::Drop;
         }

@@ -47,10 +47,10 @@ fn answer_lines<R: Read + Drop, W: Write + Drop>(
 
 fn main(rt: HostRuntime) -> anyhow::Result<()> {
     let heap = rt.alloc();
-    let poller = BenchPoller::new(heap)?;
-    let mut bench = EventLoop::new(heap, poller, BenchClock { time: 0 })?;
     let mut input = BufReader::new(heap, rt.stdin())?;
     let mut output = BufWriter::new(heap, rt.stdout())?;
+    let poller = BenchPoller::new(heap)?;
+    let mut bench = EventLoop::new(heap, poller, BenchClock { time: 0 })?;
     let answered = answer_lines(&rt, &mut bench, &mut input, &mut output);
     bench.end();
     answered

@@ -6,7 +6,7 @@ use crate::inner::{InsertError, LoopInner};
 use list::{Lifecycle, SourceList};
 use poller::Poller;
 use post_action::PostAction;
-use sources::{Errands, EventSource};
+use sources::EventSource;
 use std::alloc::{AllocError, Global};
 use sys::{Clock, Poll};
 use token::{Error, Token, TokenFactory};
@@ -20,13 +20,11 @@ impl<P: Poller, C: Clock, S: EventSource> LoopInner<P, C, S> {
     {
         let poll = Poll::new(heap, poller, clock)?;
         let lifecycle = Lifecycle::new(heap)?;
-        let errands = Errands::new(heap)?;
         let sources = SourceList::new(heap)?;
         Ok(LoopInner {
             poll,
             sources,
             lifecycle,
-            errands,
             pending_action: PostAction::Continue,
         })
     }

@@ -95,7 +95,6 @@ impl<P: Poller, C: Clock, S: EventSource> EventLoop<P, C, S> {
             poll,
             sources,
             lifecycle: _,
-            errands: _,
             pending_action: _,
         } = inner;
         let mut poll = poll;

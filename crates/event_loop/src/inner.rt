@@ -1,7 +1,6 @@
 // What calls and turns can reach.
 use list::{Lifecycle, SourceList};
 use post_action::PostAction;
-use sources::Errands;
 use sys::Poll;
 use token::Error;
 
@@ -9,8 +8,6 @@ pub struct LoopInner<P, C, S> {
     pub(crate) poll: Poll<P, C>,
     pub(crate) sources: SourceList<S>,
     pub(crate) lifecycle: Lifecycle,
-    // what the source whose event is being handled asks for
-    pub(crate) errands: Errands,
     // what was asked for the source whose event is being handled
     pub(crate) pending_action: PostAction,
 }

@@ -23,13 +23,7 @@ impl<P: Poller, C: Clock, S: EventSource> LoopInner<P, C, S> {
             return (Verdict::Stale, None);
         };
         let mut source = self.sources.take_out(i);
-        self.errands.clear();
-        let answer = source.process_events(
-            &mut self.poll,
-            event.readiness,
-            event.token,
-            &mut self.errands,
-        );
+        let answer = source.process_events(&mut self.poll, event.readiness, event.token);
         let pending = mem::replace(&mut self.pending_action, PostAction::Continue);
         let fault = match answer {
             Ok(action) => {

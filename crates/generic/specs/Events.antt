@@ -6,7 +6,7 @@ use Rattle.poller.specs.declared.entry.Readiness.{Readiness}
 use Rattle.post_action.specs.declared.PostAction.{PostAction}
 use Rattle.post_action.specs.declared.PostAction.TheVariants.{Continue}
 use Rattle.sys.specs.World.{Exchange, World}
-use Rattle.sources.specs.declared.errand.Errand.{Errand}
+use Rattle.kinds.specs.declared.errand.Errand.{Errand}
 use Rattle.generic.specs.declared.generic.Generic.{Generic}
 
 module _ {H : Type 0} (handles : H → Readiness → List Errand → Outcome PostAction → H → List Errand → Type 0) (s : Generic H) (x : Readiness) (t : Token) (es : List Errand) where

@@ -11,7 +11,7 @@ use Rattle.sys.specs.World.{Exchange, World, with_timers}
 use Rattle.rules.specs.Kinds.{Faulty, Grown, Processing, Reads}
 use Rattle.rules.specs.Meaning.{Meaning}
 use Rattle.rules.proofs.Timers.{timers_same}
-use Rattle.sources.specs.declared.errand.Errand.{Errand}
+use Rattle.kinds.specs.declared.errand.Errand.{Errand}
 use Rattle.one_file.specs.declared.one_file.OneFile.{OneFile}
 use Rattle.one_file.specs.Calls.{meaning}
 use Rattle.one_file.specs.Tickets.{itself, key_alone}

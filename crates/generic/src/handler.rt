@@ -2,14 +2,14 @@
 ghost use Rattle.poller.specs.declared.entry.Readiness.{Readiness};
 ghost use Rattle.post_action.specs.declared.PostAction.{PostAction};
 ghost use Rattle.rules.specs.Kinds.{Faulty, Grown};
-ghost use Rattle.sources.specs.Errands.{errands_of};
-ghost use Rattle.sources.specs.declared.errand.Errand.{Errand};
+ghost use Rattle.kinds.specs.Errands.{errands_of};
+ghost use Rattle.kinds.specs.declared.errand.Errand.{Errand};
 ghost use Rattle.token.specs.Refusal.{Outcome, outcome};
 ghost use Rattle.std.specs.Prelude.{List};
 
+use kinds::Errands;
 use poller::Readiness;
 use post_action::PostAction;
-use sources::Errands;
 use token::Error;
 
 pub trait GenericHandler {

@@ -1,3 +1,0 @@
-pub mod Errands
-pub mod Events
-pub mod Sum

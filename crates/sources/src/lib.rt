@@ -1,13 +1,12 @@
-// Source kinds: what the loop asks of one, and the sum of two.
+// Source kinds: what the loop asks of one, and the kinds that are built.
 #![tactic(auto)]
 
-mod asking;
 mod either;
-mod errand;
-mod errands;
+mod generic;
 mod source;
+mod timer;
 
 pub use either::Either;
-pub use errand::{Errand, Reply};
-pub use errands::Errands;
+pub use generic::{Generic, GenericHandler};
 pub use source::EventSource;
+pub use timer::{TimeoutAction, Timer, TimerHandler};

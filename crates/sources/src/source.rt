@@ -1,113 +1,43 @@
 // What a source kind is. Its calls work over any poller and any clock.
-ghost use Rattle.std.specs.Prelude.{◌≡◌, ℕ, List, Option};
-ghost use Rattle.poller.specs.Meaning.{Answer};
-ghost use Rattle.poller.specs.declared.entry.Readiness.{Readiness};
-ghost use Rattle.post_action.specs.declared.PostAction.{PostAction};
-ghost use Rattle.rules.specs.Kinds.{LettingGo, Processing, Registering, Reregistering, Unregistering, Wakes};
-ghost use Rattle.rules.specs.Meaning.{Drawer, Meaning, drawer_of};
-ghost use Rattle.sources.specs.Errands.{errands_of};
-ghost use Rattle.sources.specs.Events.{of_source};
-ghost use Rattle.sources.specs.declared.errand.Errand.{Errand};
-ghost use Rattle.sources.specs.declared.errand.Reply.{Reply};
-ghost use Rattle.sys.specs.World.{Exchange, Exchanged, World, world_of};
-ghost use Rattle.sys.specs.declared.event.PollEvent.{PollEvent};
-ghost use Rattle.token.specs.Refusal.{Outcome, outcome};
-ghost use Rattle.token.specs.declared.token.Token.{Token};
-
-use crate::errand::{Errand, Reply};
-use crate::errands::Errands;
 use poller::{Poller, Readiness};
 use post_action::PostAction;
 use sys::{Clock, Poll, PollEvent};
 use token::{Error, Token, TokenFactory};
 
 pub trait EventSource {
-    ghost means: { Self → Meaning };
-
-    // What each call may come to. Only the call itself gives it, so that nobody can claim one that was not made.
-    // The list of exchanges is what was asked of the poller and the clock, with their answers.
-    ghost registers: { Self → World → Drawer → List Exchange → Answer → Self → World → Drawer → Type 0 };
-
-    ghost reregisters: { Self → World → Drawer → List Exchange → Answer → Self → World → Drawer → Type 0 };
-
-    ghost unregisters: { Self → World → List Exchange → Answer → Self → World → Type 0 };
-
-    ghost leaves: { Self → World → List Exchange → Self → World → Type 0 };
-
-    ghost processes: { Self → World → Readiness → Token → List Errand → List Exchange → Outcome PostAction → Self → World → List Errand → Type 0 };
-
-    ghost hears: { Self → Errand → Outcome Reply → Self → Type 0 };
-
-    ghost sleeps: { Self → Outcome (Option (Readiness × Token)) → Self → Type 0 };
-
-    ghost sees: { Self → List PollEvent → Self → Type 0 };
-
     fn register<P: Poller, C: Clock>(
         &mut self,
         poll: &mut Poll<P, C>,
         factory: &mut TokenFactory,
-    ) -> Result<(), Error>
-        ensures { (xs : List Exchange) × Exchanged P.Poller.adds P.Poller.modifies P.Poller.deletes C.Clock.reads xs poll.old poll.new × registers self.old (world_of P.Poller.entries P.Poller.most poll.old) (drawer_of factory.old) xs (outcome result) self.new (world_of P.Poller.entries P.Poller.most poll.new) (drawer_of factory.new) };
+    ) -> Result<(), Error>;
 
     fn reregister<P: Poller, C: Clock>(
         &mut self,
         poll: &mut Poll<P, C>,
         factory: &mut TokenFactory,
-    ) -> Result<(), Error>
-        ensures { (xs : List Exchange) × Exchanged P.Poller.adds P.Poller.modifies P.Poller.deletes C.Clock.reads xs poll.old poll.new × reregisters self.old (world_of P.Poller.entries P.Poller.most poll.old) (drawer_of factory.old) xs (outcome result) self.new (world_of P.Poller.entries P.Poller.most poll.new) (drawer_of factory.new) };
+    ) -> Result<(), Error>;
 
-    fn unregister<P: Poller, C: Clock>(&mut self, poll: &mut Poll<P, C>) -> Result<(), Error>
-        ensures { (xs : List Exchange) × Exchanged P.Poller.adds P.Poller.modifies P.Poller.deletes C.Clock.reads xs poll.old poll.new × unregisters self.old (world_of P.Poller.entries P.Poller.most poll.old) xs (outcome result) self.new (world_of P.Poller.entries P.Poller.most poll.new) };
+    fn unregister<P: Poller, C: Clock>(&mut self, poll: &mut Poll<P, C>) -> Result<(), Error>;
 
     // Gives up all that it holds, whatever the poller answers.
-    fn let_go<P: Poller, C: Clock>(&mut self, poll: &mut Poll<P, C>)
-        ensures { (xs : List Exchange) × Exchanged P.Poller.adds P.Poller.modifies P.Poller.deletes C.Clock.reads xs poll.old poll.new × leaves self.old (world_of P.Poller.entries P.Poller.most poll.old) xs self.new (world_of P.Poller.entries P.Poller.most poll.new) };
+    fn let_go<P: Poller, C: Clock>(&mut self, poll: &mut Poll<P, C>);
 
-    // Ends a value that holds nothing any more.
+    // Ends a value that was let go.
     fn end(self);
-
-    // A copy, as that of a spare, takes no memory.
-    fn copy(&self) -> Self
-        ensures { result ≡ self.now };
 
     fn process_events<P: Poller, C: Clock>(
         &mut self,
         poll: &mut Poll<P, C>,
         readiness: Readiness,
         token: Token,
-        errands: &mut Errands,
-    ) -> Result<PostAction, Error>
-        ensures { (xs : List Exchange) × Exchanged P.Poller.adds P.Poller.modifies P.Poller.deletes C.Clock.reads xs poll.old poll.new × processes self.old (world_of P.Poller.entries P.Poller.most poll.old) readiness token (errands_of errands.old) xs (outcome result) self.new (world_of P.Poller.entries P.Poller.most poll.new) (errands_of errands.new) };
-
-    // Told the answer to an errand that it asked for.
-    fn told(&mut self, errand: Errand, answer: Result<Reply, Error>)
-        ensures { hears self.old errand (outcome answer) self.new };
+    ) -> Result<PostAction, Error>;
 
     // Whether the value wants the two hooks below.
-    fn needs_hooks(&self) -> bool
-        ensures { result ≡ (means self.now).hooks };
+    fn needs_hooks(&self) -> bool;
 
     // Asked before a wait: a synthetic event of its own, or nothing.
-    fn before_sleep(&mut self) -> Result<Option<(Readiness, Token)>, Error>
-        ensures { sleeps self.old (outcome result) self.new };
+    fn before_sleep(&mut self) -> Result<Option<(Readiness, Token)>, Error>;
 
-    // Told after a wait. `events` are the poller's and the timers'; only those of `registration` are its own.
-    fn before_handle_events(&mut self, registration: Token, events: &[PollEvent])
-        ensures { sees self.old (of_source registration events.now) self.new };
-
-    ghost registering: { (s : Self) (w : World) (d : Drawer) (xs : List Exchange) (r : Answer) (s' : Self) (w' : World) (d' : Drawer) → registers s w d xs r s' w' d' → Registering (means s) w d xs r (means s') w' d' };
-
-    ghost reregistering: { (s : Self) (w : World) (d : Drawer) (xs : List Exchange) (r : Answer) (s' : Self) (w' : World) (d' : Drawer) → reregisters s w d xs r s' w' d' → Reregistering (means s) w d xs r (means s') w' d' };
-
-    ghost unregistering: { (s : Self) (w : World) (xs : List Exchange) (r : Answer) (s' : Self) (w' : World) → unregisters s w xs r s' w' → Unregistering (means s) w xs r (means s') w' };
-
-    ghost leaving: { (s : Self) (w : World) (xs : List Exchange) (s' : Self) (w' : World) → leaves s w xs s' w' → LettingGo (means s) w xs (means s') w' };
-
-    ghost processing: { (s : Self) (w : World) (x : Readiness) (t : Token) (es : List Errand) (xs : List Exchange) (r : Outcome PostAction) (s' : Self) (w' : World) (es' : List Errand) → processes s w x t es xs r s' w' es' → Processing (means s) w t es xs r (means s') w' es' };
-
-    ghost hearing: { (s : Self) (e : Errand) (a : Outcome Reply) (s' : Self) → hears s e a s' → means s' ≡ means s };
-
-    ghost sleeping: { (s : Self) (r : Outcome (Option (Readiness × Token))) (s' : Self) → sleeps s r s' → (means s' ≡ means s) × Wakes (means s) r };
-
-    ghost seeing: { (s : Self) (vs : List PollEvent) (s' : Self) → sees s vs s' → means s' ≡ means s };
+    // Told after a wait: `events` has the poller's and the timers' events, also other sources'.
+    fn before_handle_events(&mut self, registration: Token, events: &[PollEvent]);
 }

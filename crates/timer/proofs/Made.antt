@@ -4,7 +4,7 @@ use Rattle.token.specs.declared.token.Token.{Token}
 use Rattle.token.specs.Refusal.{Outcome}
 use Rattle.post_action.specs.declared.PostAction.{PostAction}
 use Rattle.sys.specs.World.{Exchange, World}
-use Rattle.sources.specs.declared.errand.Errand.{Errand}
+use Rattle.kinds.specs.declared.errand.Errand.{Errand}
 use Rattle.timer.specs.declared.timer.Registration.{Registration}
 use Rattle.timer.specs.declared.timer.TimeoutAction.{TimeoutAction}
 use Rattle.timer.specs.declared.timer.Timer.{Timer}

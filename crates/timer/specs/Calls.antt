@@ -11,7 +11,7 @@ use Rattle.timer_wheel.specs.Wheel.{Wheel, cancel_of, insert_of, reuse_of}
 use Rattle.sys.specs.World.{Exchange, World, read, with_timers}
 use Rattle.rules.specs.Calls.{Came, Went, drawn_to}
 use Rattle.rules.specs.Meaning.{Drawer, Meaning}
-use Rattle.sources.specs.declared.errand.Errand.{Errand}
+use Rattle.kinds.specs.declared.errand.Errand.{Errand}
 use Rattle.timer.specs.declared.timer.Registration.{Registration}
 use Rattle.timer.specs.declared.timer.TimeoutAction.{TimeoutAction}
 use Rattle.timer.specs.declared.timer.TimeoutAction.TheVariants.{Drop, ToInstant, ToDuration}

@@ -19,7 +19,7 @@ use Rattle.rules.proofs.Drawing.{draw_cases, drawn_key, next_token, none_drawn, 
 use Rattle.rules.proofs.Files.{keeps_same}
 use Rattle.rules.proofs.Steps.{reaches_then}
 use Rattle.rules.proofs.Timers.{cancel_timers, insert_cases, insert_timers, reuse_cases, reuse_timers, timers_fewer, timers_same}
-use Rattle.sources.specs.declared.errand.Errand.{Errand}
+use Rattle.kinds.specs.declared.errand.Errand.{Errand}
 use Rattle.timer.specs.declared.timer.Registration.{Registration}
 use Rattle.timer.specs.declared.timer.TimeoutAction.{TimeoutAction}
 use Rattle.timer.specs.declared.timer.TimeoutAction.TheVariants.{Drop, ToInstant, ToDuration}

@@ -11,9 +11,9 @@ ghost use Rattle.std.proofs.Common.{rules};
 
 use crate::handler::TimerHandler;
 use crate::timer::{Registration, TimeoutAction, Timer};
+use kinds::{Errand, Errands, EventSource, Reply};
 use poller::{Poller, Readiness};
 use post_action::PostAction;
-use sources::{Errand, Errands, EventSource, Reply};
 use sys::{Clock, Poll, PollEvent};
 use token::{Error, Token, TokenFactory};
 

@@ -1,12 +1,12 @@
 // What is done when the timer rings.
 ghost use Rattle.std.specs.Prelude.{ℕ, List};
 ghost use Rattle.rules.specs.Kinds.{Grown};
-ghost use Rattle.sources.specs.Errands.{errands_of};
-ghost use Rattle.sources.specs.declared.errand.Errand.{Errand};
+ghost use Rattle.kinds.specs.Errands.{errands_of};
+ghost use Rattle.kinds.specs.declared.errand.Errand.{Errand};
 ghost use Rattle.timer.specs.declared.timer.TimeoutAction.{TimeoutAction};
 
 use crate::timer::TimeoutAction;
-use sources::Errands;
+use kinds::Errands;
 
 pub trait TimerHandler {
     // What a call may come to. Only the call itself gives it.

@@ -1,6 +1,6 @@
 -- The sum of two kinds: each call goes to the part, and the value stays on its side.
-use Rattle.sources.specs.declared.either.Either.{Either}
-use Rattle.sources.specs.declared.either.Either.TheVariants.{Left, Right}
+use Rattle.kinds.specs.declared.either.Either.{Either}
+use Rattle.kinds.specs.declared.either.Either.TheVariants.{Left, Right}
 
 abbrev pub sum_of : {A B X : Type 0} → (A → X) → (B → X) → Either A B → X
 sum_of p q (Left a) = p a

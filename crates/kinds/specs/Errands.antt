@@ -2,8 +2,8 @@
 use Rattle.std.specs.Prelude.{cond, List, [], ◌∷◌, ◌++◌, length, vec_items, nat_lt}
 use Rattle.token.specs.Refusal.{done, refusal}
 use Rattle.poller.specs.Meaning.{Answer}
-use Rattle.sources.specs.declared.errand.Errand.{Errand}
-use Rattle.sources.specs.declared.errands.Errands.{Errands}
+use Rattle.kinds.specs.declared.errand.Errand.{Errand}
+use Rattle.kinds.specs.declared.errands.Errands.{Errands}
 
 abbrev pub errands_of : Errands → List Errand
 errands_of e = vec_items e.items

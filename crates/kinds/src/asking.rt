@@ -1,5 +1,5 @@
 // The calls of the list of errands. Only `new` allocates.
-ghost use Rattle.sources.specs.Errands.{errands_of, push_of};
+ghost use Rattle.kinds.specs.Errands.{errands_of, push_of};
 ghost use Rattle.std.specs.Prelude.{◌≡◌, [], length, IfOk};
 ghost use Rattle.token.specs.Refusal.{outcome};
 

@@ -1,0 +1,13 @@
+// Source kinds: what the loop asks of one, and the sum of two.
+#![tactic(auto)]
+
+mod asking;
+mod either;
+mod errand;
+mod errands;
+mod source;
+
+pub use either::Either;
+pub use errand::{Errand, Reply};
+pub use errands::Errands;
+pub use source::EventSource;
