@@ -1,4 +1,4 @@
-// Source kinds: what the loop asks of one, and the sum of two.
+// Source kinds by their rules: what each call of one owes, as laws, and the sum of two.
 #![tactic(auto)]
 
 mod asking;

@@ -7,7 +7,7 @@ ghost use Rattle.poller.specs.Register.{entry_of};
 ghost use Rattle.poller.specs.Reports.{Midst};
 ghost use Rattle.poller.specs.declared.entry.Entry.{Entry};
 ghost use Rattle.poller.specs.Lining.{line_waits};
-ghost use Rattle.std.proofs.Common.{rules, arith};
+ghost use Rattle.std.proofs.Common.{rules};
 
 use crate::entry::{Interest, Mode};
 use crate::events::Events;
@@ -103,13 +103,13 @@ impl Poller for LinePoller {
 
     ghost waits = { λ p t r vs p'. (r, vs, line_of p') ≡ line_wait (line_of p) };
 
-    ghost sound = { first_of (Prim.search rules, Prim.grind (arith, Self.row.coded.inj)) };
+    ghost sound = { Prim.search rules };
 
-    ghost adding = { first_of (Prim.search rules, Prim.grind (arith, Self.row.coded.inj)) };
+    ghost adding = { Prim.search rules };
 
-    ghost modifying = { first_of (Prim.search rules, Prim.grind (arith, Self.row.coded.inj)) };
+    ghost modifying = { Prim.search rules };
 
-    ghost deleting = { first_of (Prim.search rules, Prim.grind (arith, Self.row.coded.inj)) };
+    ghost deleting = { Prim.search rules };
 
     ghost waiting = { λ p t r vs p' e. (line_waits (line_of p) (line_of p') r vs e, refl) };
 

@@ -96,9 +96,9 @@ owned f n k e = subst (λ (x : Option ℕ). In f (own_files f x)) (sym e) (inl r
 held_as : (f n : ℕ) (k : Option ℕ) → k ≡ Some n → In (record { file = f; key = n }) (under f k)
 held_as f n k e = subst (λ (x : Option ℕ). In (record { file = f; key = n }) (under f x)) (sym e) (inl refl)
 
-key_of : (f : ℕ) (k : Option ℕ) → In f (own_files f k) → (n : ℕ) × (k ≡ Some n)
-key_of f None m = elim m [ ]
-key_of f (Some n) m = (n, refl)
+key_of_lem : (f : ℕ) (k : Option ℕ) → In f (own_files f k) → (n : ℕ) × (k ≡ Some n)
+key_of_lem f None m = elim m [ ]
+key_of_lem f (Some n) m = (n, refl)
 
 -- what is known of the file's entry `now` after a call: under the key `k'` where there is one, else stuck
 pub record Placed (D : ℕ → Type 0) (f : ℕ) (k k' : Option ℕ) (es : List Entry) (now : Option Entry) : Type 0 where
@@ -131,7 +131,7 @@ module _ (D : ℕ → Type 0) (f : ℕ) (k k' : Option ℕ) (es es' : List Entry
               subst (λ (y : Held). In y.file (own_files f k')) (sym l.2) (owned f l.0 k' l.1);
           rest = λ g m.
               let q : g ≡ f = lone f g k' m in
-              let l = key_of f k' (subst (λ (x : ℕ). In x (own_files f k')) q m) in
+              let l = key_of_lem f k' (subst (λ (x : ℕ). In x (own_files f k')) q m) in
               let v = w.under_key l.0 l.1 in
               subst (λ (x : ℕ). (e : Entry) × (entry_of x es' ≡ Some e) × (In (record { file = x; key = e.key }) (under f k') ⊎ (e.stuck ≡ true))) (sym q)
               (v.0, v.1, inl (held_as f v.0.key k' (l.1 ∙ ap (λ (n : ℕ). Some n) (sym v.2))));
