@@ -1,3 +1,4 @@
 pub mod Two
+pub mod Tickets
 pub mod Bell
 pub mod Laws

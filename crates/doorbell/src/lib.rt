@@ -1,7 +1,6 @@
 // A doorbell: a file that rings, a count, and hooks that hand the rings out.
 #![tactic(auto)]
 
-mod calls;
 mod doorbell;
 mod tokens;
 

@@ -1,16 +1,18 @@
 // The answer to a line, as text.
-use crate::bench::{Bench, Fixed, Repeat, Setting, Source};
-use event_loop::{InsertError, Line, Verdict};
+ghost use Rattle.std.specs.Prelude.{◌≡◌, ◌++◌, IfOk, string_bytes};
+ghost use Rattle.doorbench.specs.Answer.{dispatch_text, insert_text, refusal_text, sheet_text};
+
+use crate::bench::{Bench, Fixed, Repeat, Source};
+use event_loop::{InsertError, Line};
 use poller::{Interest, Mode};
 use script::Form;
 use sources::{Either, EventSource, Generic, Timer};
-use std::fmt;
-use std::fmt::Write;
-use sys::{Class, Environment};
+use std::alloc::AllocError;
+use sys::{Environment, Setting};
 use token::{Error, Token};
 
 // Does what the line asks for, and writes the answer.
-pub fn perform(bench: &mut Bench, form: Option<Form>, out: &mut String) -> fmt::Result {
+pub fn perform(bench: &mut Bench, form: Option<Form>, out: &mut String) -> Result<(), AllocError> {
     match form {
         Some(Form::Timer { deadline, period }) => {
             let timer = Timer::from_deadline(deadline, Repeat { period });
@@ -23,37 +25,31 @@ pub fn perform(bench: &mut Bench, form: Option<Form>, out: &mut String) -> fmt::
         Some(Form::Wait { clock, files }) => {
             bench.arrange(&mut Setting {
                 time: clock,
-                files: Some(files),
+                ready: Some(files),
+                plan: None,
             });
             let answer = bench.dispatch(None);
-            write_sheet(bench.sheet.lines.as_slice(), out)?;
-            match answer {
-                Ok(()) => Ok(()),
-                Err(error) => {
-                    out.write_str(" ")?;
-                    write_refusal(error, out)
-                }
-            }
+            write_dispatch(answer, bench.sheet.items.as_slice(), out)
         }
         None => write_refusal(Error::BadForm, out),
     }
 }
 
-fn write_refusal(error: Error, out: &mut String) -> fmt::Result {
-    let number = error.number();
-    write!(out, "(no {number})")?;
-    Ok(())
+fn write_refusal(error: Error, out: &mut String) -> Result<(), AllocError>
+    ensures { IfOk result (λ _. string_bytes out.new ≡ string_bytes out.old ++ refusal_text error) }
+{
+    write!(out, "(no {})", error.number())
 }
 
 // A source that comes back holds nothing, and ends here.
-fn write_insert(answer: Result<Token, InsertError<Source>>, out: &mut String) -> fmt::Result {
+fn write_insert(
+    answer: Result<Token, InsertError<Source>>,
+    out: &mut String,
+) -> Result<(), AllocError>
+    ensures { IfOk result (λ _. string_bytes out.new ≡ string_bytes out.old ++ insert_text answer) }
+{
     match answer {
-        Ok(token) => {
-            let id = token.id;
-            let version = token.version;
-            write!(out, "(ok {id} {version})")?;
-            Ok(())
-        }
+        Ok(token) => write!(out, "(ok {} {})", token.id, token.version),
         Err(InsertError { inserted, error }) => {
             inserted.end();
             write_refusal(error, out)
@@ -61,26 +57,28 @@ fn write_insert(answer: Result<Token, InsertError<Source>>, out: &mut String) ->
     }
 }
 
-fn write_sheet(lines: &[Line], out: &mut String) -> fmt::Result {
-    out.write_str("(sheet")?;
-    for line in lines {
-        write_line(*line, out)?;
-    }
-    out.write_str(")")
+// The sheet, and behind it why the dispatch stopped, if it did.
+fn write_dispatch(
+    answer: Result<(), Error>,
+    lines: &[Line],
+    out: &mut String,
+) -> Result<(), AllocError>
+    ensures { IfOk result (λ _. string_bytes out.new ≡ string_bytes out.old ++ dispatch_text answer lines.now) }
+{
+    write_sheet(lines, out)?;
+    let Err(error) = answer else {
+        return Ok(());
+    };
+    out.push_str(" ")?;
+    write_refusal(error, out)
 }
 
-fn write_line(line: Line, out: &mut String) -> fmt::Result {
-    let class = match line.class {
-        Class::Synthetic => 'S',
-        Class::Polled => 'P',
-        Class::Timer => 'T',
-    };
-    let verdict = match line.verdict {
-        Verdict::Delivered => 'd',
-        Verdict::Stale => 's',
-        Verdict::Lost => 'l',
-    };
-    let key = line.key;
-    write!(out, " ({class} {key} {verdict})")?;
-    Ok(())
+fn write_sheet(lines: &[Line], out: &mut String) -> Result<(), AllocError>
+    ensures { IfOk result (λ _. string_bytes out.new ≡ string_bytes out.old ++ sheet_text lines.now) }
+{
+    out.push_str("(sheet")?;
+    for line in lines {
+        write!(out, " {line}")?;
+    }
+    out.push_str(")")
 }

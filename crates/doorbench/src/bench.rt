@@ -1,11 +1,9 @@
-// The sources, the clock and the surroundings that a script speaks of.
-ghost use Rattle.std.specs.Prelude.{◌≡◌};
-
+// The sources that a script speaks of, and the loop over them.
 use event_loop::EventLoop;
 use poller::{BenchPoller, Readiness};
 use post_action::PostAction;
 use sources::{Either, Generic, GenericHandler, TimeoutAction, Timer, TimerHandler};
-use sys::{Clock, Environment};
+use sys::SetClock;
 use token::Error;
 
 // Answers every event of its file alike.
@@ -28,43 +26,13 @@ pub struct Repeat {
 
 impl TimerHandler for Repeat {
     fn ring(&mut self, _deadline: u64) -> TimeoutAction {
-        if self.period == 0 {
-            return TimeoutAction::Drop;
+        match self.period {
+            0 => TimeoutAction::Drop,
+            period => TimeoutAction::ToDuration(period),
         }
-        TimeoutAction::ToDuration(self.period)
     }
 }
 
 pub type Source = Either<Timer<Repeat>, Generic<Fixed>>;
 
-pub type Bench = EventLoop<BenchPoller, BenchClock, Source>;
-
-// A clock that stands where it was set.
-#[derive(Clone, Copy)]
-pub struct BenchClock {
-    pub time: u64,
-}
-
-impl Clock for BenchClock {
-    ghost reads = { λ s r t. (r ≡ s.time) × (t ≡ s) };
-
-    fn now(&mut self) -> u64 {
-        self.time
-    }
-}
-
-// The time and the files that are ready, as a line sets them.
-#[derive(Drop)]
-pub struct Setting {
-    pub time: u64,
-    pub files: Option<Vec<u32>>,
-}
-
-impl Environment<BenchPoller, BenchClock> for Setting {
-    fn arrange(&mut self, poller: &mut BenchPoller, clock: &mut BenchClock) {
-        clock.time = self.time;
-        if let Some(files) = self.files.take() {
-            poller.make_ready(files);
-        }
-    }
-}
+pub type Bench = EventLoop<BenchPoller, SetClock, Source>;

@@ -5,41 +5,28 @@ mod answer;
 mod bench;
 
 use answer::perform;
-use bench::{Bench, BenchClock};
+use bench::Bench;
 use event_loop::EventLoop;
 use poller::BenchPoller;
 use script::read_line;
 use sources::EventSource;
 use std::io::{BufRead, BufReader, BufWriter, Read, Write};
+use sys::SetClock;
 
-// The line without its newline.
-fn trimmed(line: &[u8]) -> &[u8] {
-    match line {
-        [text @ .., b'\n'] => text,
-        _ => line,
-    }
-}
-
-// Answers each line until there is none.
+// Answers each line.
 fn answer_lines<R: Read + Drop, W: Write + Drop>(
     rt: &HostRuntime,
     bench: &mut Bench,
-    input: &mut BufReader<R>,
+    input: BufReader<R>,
     output: &mut BufWriter<W>,
 ) -> anyhow::Result<()> {
     let heap = rt.alloc();
-    let mut line = Vec::new(heap);
     let mut out = String::new(heap);
-    for _ in 0..u64::MAX {
-        line.clear();
-        if input.read_until(b'\n', &mut line)? == 0 {
-            break;
-        }
-        let form = read_line(heap, trimmed(line.as_slice()))?;
+    for line in input.split(heap, b'\n') {
+        let form = read_line(heap, line?.as_slice())?;
         out.clear();
         perform(bench, form, &mut out)?;
-        out.push('\n')?;
-        output.write_all(out.as_bytes())?;
+        writeln!(output, "{out}")?;
     }
     output.flush()?;
     Ok(())
@@ -47,11 +34,11 @@ fn answer_lines<R: Read + Drop, W: Write + Drop>(
 
 fn main(rt: HostRuntime) -> anyhow::Result<()> {
     let heap = rt.alloc();
-    let mut input = BufReader::new(heap, rt.stdin())?;
+    let input = BufReader::new(heap, rt.stdin())?;
     let mut output = BufWriter::new(heap, rt.stdout())?;
     let poller = BenchPoller::new(heap)?;
-    let mut bench = EventLoop::new(heap, poller, BenchClock { time: 0 })?;
-    let answered = answer_lines(&rt, &mut bench, &mut input, &mut output);
+    let mut bench = EventLoop::new(heap, poller, SetClock { time: 0 })?;
+    let answered = answer_lines(&rt, &mut bench, input, &mut output);
     bench.end();
     answered
 }

@@ -1,2 +1,3 @@
 pub mod Decide
 pub mod Remaining
+pub mod Printed

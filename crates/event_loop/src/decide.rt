@@ -8,8 +8,8 @@ use post_action::PostAction;
 pub fn decide(action: PostAction, pending: PostAction) -> PostAction
     ensures { result ≡ decided action pending }
 {
-    match (action, pending) {
-        (PostAction::Continue, asked) if asked != PostAction::Continue => asked,
-        (answered, _) => answered,
+    match action {
+        PostAction::Continue => pending,
+        answered => answered,
     }
 }

@@ -1,11 +1,11 @@
-// A dispatch: hooks, a wait, and a turn for each event.
-ghost use Rattle.std.specs.Prelude.{◌≡◌, ◌+◌, ◌≤◌, [], length, vec_len};
-ghost use Rattle.list.specs.Slots.{Calm, slots_of};
+// The user's calls; a dispatch is hooks, a wait, and a turn for each event.
+ghost use Rattle.std.specs.Prelude.{◌≡◌, ◌+◌, ◌≤◌, length, vec_len};
 
-use crate::inner::{InsertError, LoopInner};
-use crate::remaining::remaining;
+use crate::inner::{InsertError, LoopInner, Registry};
 use crate::sheet::{Line, Sheet, Verdict};
 use crate::state::EventLoop;
+use crate::wait::wait;
+use bounded::Bounded;
 use list::{Place, Slot};
 use poller::Poller;
 use sources::EventSource;
@@ -19,30 +19,26 @@ impl<P: Poller, C: Clock, S: EventSource> LoopInner<P, C, S> {
         &mut self,
         events: &[PollEvent],
         sheet: &mut Sheet,
-        fault: Option<Error>,
-    ) -> Option<Error>
-        requires calm { Calm (slots_of self.old.sources) }
-        requires room { vec_len sheet.old.lines + length events.now ≤ 640 }
-        ensures calm { Calm (slots_of self.new.sources) }
-        ensures lines { vec_len sheet.new.lines ≡ vec_len sheet.old.lines + length events.now }
+        mut fate: Result<(), Error>,
+    ) -> Result<(), Error>
+        requires { vec_len sheet.old.items + length events.now ≤ 640 }
+        ensures { vec_len sheet.new.items ≡ vec_len sheet.old.items + length events.now }
     {
-        let mut fault = fault;
         for event in events {
-            let verdict = match fault {
-                Some(_) => Verdict::Lost,
-                None => {
-                    let (verdict, stopped) = self.turn(*event);
-                    fault = stopped;
-                    verdict
-                }
+            let verdict = match fate {
+                Ok(()) => self.turn(*event).unwrap_or_else(|error| {
+                    fate = Err(error);
+                    Verdict::Delivered
+                }),
+                Err(_) => Verdict::Lost,
             };
-            sheet.lines.push_reserved(Line {
+            sheet.items.push_reserved(Line {
                 class: event.class,
-                key: event.token.key(),
+                key: u64::from(event.token),
                 verdict,
             });
         }
-        fault
+        fate
     }
 }
 
@@ -50,13 +46,11 @@ impl<P: Poller, C: Clock, S: EventSource> LoopInner<P, C, S> {
 fn end_slot<P: Poller, C: Clock, S: EventSource>(slot: Slot<S>, poll: &mut Poll<P, C>) {
     let Slot { version: _, place } = slot;
     match place {
-        Place::Occupied(source) => {
-            let mut source = source;
+        Place::Occupied(mut source) => {
             source.let_go(poll);
             source.end();
         }
-        Place::Empty => {}
-        Place::Handled => {}
+        Place::Empty | Place::Handled => {}
     }
 }
 
@@ -67,7 +61,7 @@ impl<P: Poller, C: Clock, S: EventSource> EventLoop<P, C, S> {
         P: Drop,
         C: Drop,
     {
-        let synthetic_events = Vec::with_capacity(heap, 128)?;
+        let synthetic_events = Bounded::new(heap)?;
         let events = PollEvents::new(heap)?;
         let sheet = Sheet::new(heap)?;
         let inner = LoopInner::new(heap, poller, clock)?;
@@ -92,13 +86,14 @@ impl<P: Poller, C: Clock, S: EventSource> EventLoop<P, C, S> {
             sheet: _,
         } = self;
         let LoopInner {
-            poll,
-            sources,
-            lifecycle: _,
+            registry,
+            mut sources,
             pending_action: _,
         } = inner;
-        let mut poll = poll;
-        let mut sources = sources;
+        let Registry {
+            mut poll,
+            lifecycle: _,
+        } = registry;
         while let Some(slot) = sources.take_last() {
             end_slot(slot, &mut poll);
         }
@@ -107,7 +102,7 @@ impl<P: Poller, C: Clock, S: EventSource> EventLoop<P, C, S> {
 
     // Lets the world change what the poller and the clock will say.
     pub fn arrange<E: Environment<P, C>>(&mut self, environment: &mut E) {
-        self.inner.poll.arrange(environment);
+        self.inner.registry.poll.arrange(environment);
     }
 
     pub fn insert(&mut self, source: S) -> Result<Token, InsertError<S>> {
@@ -116,75 +111,45 @@ impl<P: Poller, C: Clock, S: EventSource> EventLoop<P, C, S> {
 
     // Hands the events of one wait to their sources. The sheet says what became of each.
     pub fn dispatch(&mut self, timeout: Option<u64>) -> Result<(), Error> {
-        self.sheet.lines.clear();
+        self.sheet.items.clear();
         self.dispatch_events(timeout)
     }
 
     fn dispatch_events(&mut self, timeout: Option<u64>) -> Result<(), Error>
-        requires { vec_len self.old.sheet.lines ≡ 0 }
+        requires { vec_len self.old.sheet.items ≡ 0 }
     {
-        let start = self.inner.poll.now();
-        self.before_sleep()?;
-        let timeout = if self.synthetic_events.is_empty() {
+        let start = self.inner.registry.poll.now();
+        self.inner.before_sleep(&mut self.synthetic_events)?;
+        let timeout = if self.synthetic_events.items.is_empty() {
             timeout
         } else {
             Some(0)
         };
-        let mut left = timeout;
-        let mut interruptions = 0u32;
-        let events = loop {
-            match self.inner.poll.poll(left, &mut self.events) {
-                Ok(()) => break self.events.items.as_slice(),
-                Err(Error::Interrupted) if interruptions < 63 => {
-                    interruptions += 1;
-                    if let Some(given) = timeout {
-                        let Some(rest) = remaining(given, start, self.inner.poll.now()) else {
-                            return Ok(());
-                        };
-                        left = Some(rest);
-                    }
-                }
-                Err(error) => {
-                    let _ = self
-                        .inner
-                        .turns(self.events.items.as_slice(), &mut self.sheet, Some(error));
-                    return Err(error);
-                }
-            }
-        };
-        self.inner.before_handle_events(events);
-        self.handle_events()
-    }
-
-    // A turn for each event: the hooks' first, then the poller's and the timers'.
-    fn handle_events(&mut self) -> Result<(), Error>
-        requires { vec_len self.old.sheet.lines ≡ 0 }
-    {
-        let fault = self
-            .inner
-            .turns(self.synthetic_events.as_slice(), &mut self.sheet, None);
-        self.synthetic_events.clear();
-        match self
-            .inner
-            .turns(self.events.items.as_slice(), &mut self.sheet, fault)
-        {
+        let poll = &mut self.inner.registry.poll;
+        match wait(poll, timeout, start, &mut self.events) {
             None => Ok(()),
-            Some(error) => Err(error),
+            Some(Ok(())) => self.handle_events(),
+            Some(Err(error)) => {
+                self.inner
+                    .turns(self.events.items.as_slice(), &mut self.sheet, Err(error))
+            }
         }
     }
 
-    // Queues what the hooks answer. An event that found no wait yet stays in front.
-    fn before_sleep(&mut self) -> Result<(), Error>
-        ensures { vec_len self.new.sheet.lines ≡ vec_len self.old.sheet.lines }
+    // Shows the hooks what the wait brought. Then a turn for each event: the hooks' first, then the
+    // poller's and the timers'.
+    fn handle_events(&mut self) -> Result<(), Error>
+        requires { vec_len self.old.sheet.items ≡ 0 }
     {
-        for i in 0..self.inner.lifecycle.len() {
-            if self.synthetic_events.len() >= 128 {
-                return Err(Error::SyntheticFull);
-            }
-            if let Some(event) = self.inner.before_sleep(i)? {
-                self.synthetic_events.push_reserved(event);
-            }
-        }
-        Ok(())
+        let EventLoop {
+            inner,
+            synthetic_events,
+            events,
+            sheet,
+        } = self;
+        inner.before_handle_events(events.items.as_slice());
+        let fate = inner.turns(synthetic_events.items.as_slice(), sheet, Ok(()));
+        synthetic_events.items.clear();
+        inner.turns(events.items.as_slice(), sheet, fate)
     }
 }

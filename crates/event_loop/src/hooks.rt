@@ -1,59 +1,61 @@
 // The hooks around a wait.
-ghost use Rattle.list.specs.Slots.{Calm, slots_of};
+ghost use Rattle.list.specs.Slots.{Calm};
 
 use crate::inner::LoopInner;
+use bounded::Bounded;
+use list::SourceList;
 use poller::Poller;
 use sources::EventSource;
 use sys::{Class, Clock, PollEvent};
-use token::Error;
+use token::{Error, Token};
 
 impl<P: Poller, C: Clock, S: EventSource> LoopInner<P, C, S> {
-    // Asks the source of the i-th lifecycle entry for a synthetic event.
-    pub fn before_sleep(&mut self, i: usize) -> Result<Option<PollEvent>, Error>
-        requires { Calm (slots_of self.old.sources) }
-        ensures { Calm (slots_of self.new.sources) }
-    {
-        let Some(registration) = self.lifecycle.get(i) else {
-            return Ok(None);
-        };
-        let Some(slot) = self.sources.fits(registration) else {
-            return Ok(None);
-        };
-        let mut source = self.sources.take_out(slot);
-        let answer = source.before_sleep();
-        self.sources.fill(slot, source);
-        match answer? {
-            Some((readiness, token)) => Ok(Some(PollEvent {
-                class: Class::Synthetic,
-                readiness,
-                token,
-            })),
-            None => Ok(None),
+    // Queues what the hooks answer. An event that found no wait yet stays in front.
+    pub fn before_sleep(&mut self, queue: &mut Bounded<PollEvent, 128>) -> Result<(), Error> {
+        let LoopInner {
+            registry,
+            sources,
+            ..
+        } = self;
+        for token in registry.lifecycle.as_slice() {
+            if queue.is_full() {
+                return Err(Error::SyntheticFull);
+            }
+            let answer = ask(sources, *token, |source| source.before_sleep()).transpose()?;
+            if let Some((readiness, token)) = answer.flatten() {
+                queue.items.push_reserved(PollEvent {
+                    class: Class::Synthetic,
+                    readiness,
+                    token,
+                });
+            }
         }
+        Ok(())
     }
 
     // Shows the source of each lifecycle entry what the wait brought.
-    pub fn before_handle_events(&mut self, events: &[PollEvent])
-        requires { Calm (slots_of self.old.sources) }
-        ensures { Calm (slots_of self.new.sources) }
-    {
-        for i in 0..self.lifecycle.len() {
-            self.show_events(i, events);
+    pub fn before_handle_events(&mut self, events: &[PollEvent]) {
+        let LoopInner {
+            registry,
+            sources,
+            ..
+        } = self;
+        for token in registry.lifecycle.as_slice() {
+            ask(
+                sources,
+                *token,
+                |source| source.before_handle_events(*token, events),
+            );
         }
     }
+}
 
-    fn show_events(&mut self, i: usize, events: &[PollEvent])
-        requires { Calm (slots_of self.old.sources) }
-        ensures { Calm (slots_of self.new.sources) }
-    {
-        let Some(registration) = self.lifecycle.get(i) else {
-            return;
-        };
-        let Some(slot) = self.sources.fits(registration) else {
-            return;
-        };
-        let mut source = self.sources.take_out(slot);
-        source.before_handle_events(registration, events);
-        self.sources.fill(slot, source);
-    }
+// Calls the source of a lifecycle entry where it stands. None where the entry fits no slot any more.
+fn ask<S, R, F: FnOnce(&mut S) -> R>(sources: &mut SourceList<S>, token: Token, ask: F) -> Option<R>
+    requires calm { Calm sources.old }
+    requires callable { F.IsAlwaysCallable ask }
+    ensures { Calm sources.new }
+{
+    let slot = sources.fits(token)?;
+    Some(sources.with_source(slot, ask))
 }

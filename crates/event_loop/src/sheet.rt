@@ -1,7 +1,9 @@
 // What became of each event of a dispatch.
-ghost use Rattle.std.specs.Prelude.{◌≡◌, ◌<◌, ◌≤◌, [], IfOk, vec_len, vec_capacity};
+ghost use Rattle.std.specs.Prelude.{Some};
+ghost use Rattle.event_loop.specs.Printed.{line_text, verdict_letter};
 
-use std::alloc::{AllocError, Global};
+use bounded::Bounded;
+use std::fmt;
 use sys::Class;
 
 #[derive(Clone, Copy, PartialEq, Eq, Debug)]
@@ -14,26 +16,32 @@ pub enum Verdict {
     Lost,
 }
 
-#[derive(Clone, Copy)]
+impl fmt::Display for Verdict {
+    ghost output = { λ v. Some (verdict_letter v) };
+
+    fn fmt<W: fmt::Write>(&self, f: &mut fmt::Formatter<W>) -> fmt::Result {
+        f.write_str(match self {
+            Verdict::Delivered => "d",
+            Verdict::Stale => "s",
+            Verdict::Lost => "l",
+        })
+    }
+}
+
+#[derive(Clone, Copy, PartialEq, Eq, Debug)]
 pub struct Line {
     pub class: Class,
     pub key: u64,
     pub verdict: Verdict,
 }
 
-// At most 128 synthetic events, 256 of the poller and 256 timers.
-#[derive(Drop)]
-pub struct Sheet {
-    pub lines: Vec<Line>,
-    ghost room: { 640 ≤ vec_capacity lines },
-    ghost few: { vec_len lines ≤ 640 },
-}
+impl fmt::Display for Line {
+    ghost output = { λ l. Some (line_text l) };
 
-impl Sheet {
-    pub fn new(heap: Global) -> Result<Sheet, AllocError>
-        ensures { IfOk result (λ s. s.lines.items ≡ []) }
-    {
-        let lines = Vec::with_capacity(heap, 640)?;
-        Ok(Sheet { lines })
+    fn fmt<W: fmt::Write>(&self, f: &mut fmt::Formatter<W>) -> fmt::Result {
+        write!(f, "({} {} {})", self.class, self.key, self.verdict)
     }
 }
+
+// At most 128 synthetic events, 256 of the poller and 256 timers.
+pub type Sheet = Bounded<Line, 640>;

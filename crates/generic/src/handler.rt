@@ -1,8 +1,8 @@
-// What is done when the file is ready.
+// What is done when the file is ready. No closure: `new` would have to require that it may be called at any event,
+// and what it asks for would obey no law.
 ghost use Rattle.poller.specs.declared.entry.Readiness.{Readiness};
 ghost use Rattle.post_action.specs.declared.PostAction.{PostAction};
 ghost use Rattle.rules.specs.Kinds.{Faulty, Grown};
-ghost use Rattle.kinds.specs.Errands.{errands_of};
 ghost use Rattle.kinds.specs.declared.errand.Errand.{Errand};
 ghost use Rattle.token.specs.Refusal.{Outcome, outcome};
 ghost use Rattle.std.specs.Prelude.{List};
@@ -17,7 +17,7 @@ pub trait GenericHandler {
     ghost handles: { Self → Readiness → List Errand → Outcome PostAction → Self → List Errand → Type 0 };
 
     fn handle(&mut self, readiness: Readiness, errands: &mut Errands) -> Result<PostAction, Error>
-        ensures { handles self.old readiness (errands_of errands.old) (outcome result) self.new (errands_of errands.new) };
+        ensures { handles self.old readiness errands.old (outcome result) self.new errands.new };
 
     // Errands are asked for behind those that stand, and a fault is one of an event's.
     ghost handling: { (h : Self) (x : Readiness) (es : List Errand) (r : Outcome PostAction) (h' : Self) (es' : List Errand) → handles h x es r h' es' → Grown es es' × Faulty r };

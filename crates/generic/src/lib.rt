@@ -1,7 +1,6 @@
 // A source over one file: what it does when the file is ready is its handler's.
 #![tactic(auto)]
 
-mod calls;
 mod generic;
 mod handler;
 

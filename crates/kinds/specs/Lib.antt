@@ -1,3 +1,2 @@
 pub mod Errands
 pub mod Events
-pub mod Sum

@@ -2,7 +2,7 @@
 use token::Token;
 
 // A call of the user's, except dispatch.
-#[derive(Clone, Copy)]
+#[derive(Clone, Copy, PartialEq, Eq, Debug)]
 pub enum Errand {
     // insert a copy of the spare with this number
     Insert(u32),
@@ -15,7 +15,7 @@ pub enum Errand {
     Cancel(u32),
 }
 
-#[derive(Clone, Copy)]
+#[derive(Clone, Copy, PartialEq, Eq, Debug)]
 pub enum Reply {
     Inserted(Token),
     // an enable, update or disable was accepted

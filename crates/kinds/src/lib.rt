@@ -1,11 +1,10 @@
 // Source kinds by their rules: what each call of one owes, as laws, and the sum of two.
 #![tactic(auto)]
 
-mod asking;
-mod either;
 mod errand;
 mod errands;
 mod source;
+mod sum;
 
 pub use either::Either;
 pub use errand::{Errand, Reply};

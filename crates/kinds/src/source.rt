@@ -5,11 +5,10 @@ ghost use Rattle.poller.specs.declared.entry.Readiness.{Readiness};
 ghost use Rattle.post_action.specs.declared.PostAction.{PostAction};
 ghost use Rattle.rules.specs.Kinds.{LettingGo, Processing, Registering, Reregistering, Unregistering, Wakes};
 ghost use Rattle.rules.specs.Meaning.{Drawer, Meaning, drawer_of};
-ghost use Rattle.kinds.specs.Errands.{errands_of};
 ghost use Rattle.kinds.specs.Events.{of_source};
 ghost use Rattle.kinds.specs.declared.errand.Errand.{Errand};
 ghost use Rattle.kinds.specs.declared.errand.Reply.{Reply};
-ghost use Rattle.sys.specs.World.{Exchange, Exchanged, World, world_of};
+ghost use Rattle.sys.specs.World.{Between, Exchange, World};
 ghost use Rattle.sys.specs.declared.event.PollEvent.{PollEvent};
 ghost use Rattle.token.specs.Refusal.{Outcome, outcome};
 ghost use Rattle.token.specs.declared.token.Token.{Token};
@@ -21,6 +20,8 @@ use post_action::PostAction;
 use sys::{Clock, Poll, PollEvent};
 use token::{Error, Token, TokenFactory};
 
+// A kind without hooks says so call by call: a body here would have to establish `hears`, `sleeps` and `sees`,
+// which are each kind's own.
 pub trait EventSource {
     ghost means: { Self → Meaning };
 
@@ -47,26 +48,27 @@ pub trait EventSource {
         poll: &mut Poll<P, C>,
         factory: &mut TokenFactory,
     ) -> Result<(), Error>
-        ensures { (xs : List Exchange) × Exchanged P.Poller.adds P.Poller.modifies P.Poller.deletes C.Clock.reads xs poll.old poll.new × registers self.old (world_of P.Poller.entries P.Poller.most poll.old) (drawer_of factory.old) xs (outcome result) self.new (world_of P.Poller.entries P.Poller.most poll.new) (drawer_of factory.new) };
+        ensures { Between P.Poller C.Clock poll.old poll.new (λ w xs w'. registers self.old w (drawer_of factory.old) xs (outcome result) self.new w' (drawer_of factory.new)) };
 
     fn reregister<P: Poller, C: Clock>(
         &mut self,
         poll: &mut Poll<P, C>,
         factory: &mut TokenFactory,
     ) -> Result<(), Error>
-        ensures { (xs : List Exchange) × Exchanged P.Poller.adds P.Poller.modifies P.Poller.deletes C.Clock.reads xs poll.old poll.new × reregisters self.old (world_of P.Poller.entries P.Poller.most poll.old) (drawer_of factory.old) xs (outcome result) self.new (world_of P.Poller.entries P.Poller.most poll.new) (drawer_of factory.new) };
+        ensures { Between P.Poller C.Clock poll.old poll.new (λ w xs w'. reregisters self.old w (drawer_of factory.old) xs (outcome result) self.new w' (drawer_of factory.new)) };
 
     fn unregister<P: Poller, C: Clock>(&mut self, poll: &mut Poll<P, C>) -> Result<(), Error>
-        ensures { (xs : List Exchange) × Exchanged P.Poller.adds P.Poller.modifies P.Poller.deletes C.Clock.reads xs poll.old poll.new × unregisters self.old (world_of P.Poller.entries P.Poller.most poll.old) xs (outcome result) self.new (world_of P.Poller.entries P.Poller.most poll.new) };
+        ensures { Between P.Poller C.Clock poll.old poll.new (λ w xs w'. unregisters self.old w xs (outcome result) self.new w') };
 
     // Gives up all that it holds, whatever the poller answers.
     fn let_go<P: Poller, C: Clock>(&mut self, poll: &mut Poll<P, C>)
-        ensures { (xs : List Exchange) × Exchanged P.Poller.adds P.Poller.modifies P.Poller.deletes C.Clock.reads xs poll.old poll.new × leaves self.old (world_of P.Poller.entries P.Poller.most poll.old) xs self.new (world_of P.Poller.entries P.Poller.most poll.new) };
+        ensures { Between P.Poller C.Clock poll.old poll.new (λ w xs w'. leaves self.old w xs self.new w') };
 
     // Ends a value that holds nothing any more.
     fn end(self);
 
     // A copy, as that of a spare, takes no memory.
+    // Not `Clone`, which may reserve some, nor `Copy`: a kind that shares memory has an equal copy too.
     fn copy(&self) -> Self
         ensures { result ≡ self.now };
 
@@ -77,7 +79,7 @@ pub trait EventSource {
         token: Token,
         errands: &mut Errands,
     ) -> Result<PostAction, Error>
-        ensures { (xs : List Exchange) × Exchanged P.Poller.adds P.Poller.modifies P.Poller.deletes C.Clock.reads xs poll.old poll.new × processes self.old (world_of P.Poller.entries P.Poller.most poll.old) readiness token (errands_of errands.old) xs (outcome result) self.new (world_of P.Poller.entries P.Poller.most poll.new) (errands_of errands.new) };
+        ensures { Between P.Poller C.Clock poll.old poll.new (λ w xs w'. processes self.old w readiness token errands.old xs (outcome result) self.new w' errands.new) };
 
     // Told the answer to an errand that it asked for.
     fn told(&mut self, errand: Errand, answer: Result<Reply, Error>)

@@ -1,12 +1,9 @@
 -- The level table: at most 256 lines, each a key with its file and interest.
-use Rattle.std.specs.Prelude.{ℕ, Bool, true, false, cond, not, List, [], ◌∷◌, ◌++◌, length, is_some, Some, None, vec_items, filter, Option, ◌==◌, nat_lt}
+use Rattle.std.specs.Prelude.{ℕ, Bool, true, false, cond, not, List, [], ◌∷◌, ◌++◌, length, is_some, Some, None, filter, Option, ◌==◌, nat_lt}
 use Rattle.poller.specs.declared.entry.Mode.{Mode}
 use Rattle.poller.specs.declared.entry.Mode.TheVariants.{OneShot, Level, Edge}
+use Rattle.std.specs.List.{find}
 use Rattle.levels.specs.declared.table.Line.{Line}
-use Rattle.levels.specs.declared.table.Levels.{Levels}
-
-abbrev pub lines_of : Levels → List Line
-lines_of t = vec_items t.lines
 
 -- a line of the file or, where one is given, of the key
 abbrev pub hits : ℕ → Option ℕ → Line → Bool
@@ -21,8 +18,7 @@ dropped f k ls = filter (stays f k) ls
 
 -- the key's line
 abbrev pub line_of : ℕ → List Line → Option Line
-line_of k [] = None
-line_of k (l ∷ ls) = cond (l.key == k) (Some l) (line_of k ls)
+line_of k ls = find (λ (l : Line). l.key == k) ls
 
 -- a line for a new key would find no room
 abbrev pub full_for : ℕ → List Line → Bool

@@ -1,7 +1,6 @@
 // The level table: which file and interest stand for a key, over a poller without level mode.
 #![tactic(auto)]
 
-mod calls;
 mod table;
 
 pub use table::{Levels, Line};

@@ -1,13 +1,10 @@
 -- The slots as a list: slot i stands at place i.
-use Rattle.std.specs.Prelude.{◌≡◌, ℕ, suc, ◌+◌, ◌%◌, ◌^◌, ◌≤◌, Bool, true, false, cond, List, [], ◌∷◌, ◌++◌, length, Some, None, vec_items, Option, ◌==◌, ◌≢◌, nat_lt, slice_index_or, slice_set}
+use Rattle.std.specs.Prelude.{◌≡◌, ℕ, suc, ◌+◌, ◌%◌, ◌^◌, ◌≤◌, Bool, true, false, cond, not, List, [], ◌∷◌, ◌++◌, length, Some, None, Option, ◌==◌, ◌≢◌, nat_lt, slice_index_or, slice_set}
+use Rattle.std.specs.List.{position_or_len}
 use Rattle.token.specs.declared.token.Token.{Token}
 use Rattle.list.specs.declared.slots.Place.{Place}
 use Rattle.list.specs.declared.slots.Place.TheVariants.{Empty, Occupied, Handled}
 use Rattle.list.specs.declared.slots.Slot.{Slot}
-use Rattle.list.specs.declared.slots.SourceList.{SourceList}
-
-abbrev pub slots_of : {S : Type 0} → SourceList S → List (Slot S)
-slots_of l = vec_items l.slots
 
 -- A slot that was never given out. Its next version is 0.
 abbrev pub unused : {S : Type 0} → Slot S
@@ -36,8 +33,7 @@ fitting xs t =
 
 -- the lowest empty slot in use, or their number
 abbrev pub first_empty_of : {S : Type 0} → List (Slot S) → ℕ
-first_empty_of [] = 0
-first_empty_of (x ∷ xs) = cond (occupied x.place) (suc (first_empty_of xs)) 0
+first_empty_of {S} = position_or_len (λ (x : Slot S). not (occupied x.place))
 
 -- another thing stands in slot i
 abbrev pub placed : {S : Type 0} → List (Slot S) → ℕ → Place S → List (Slot S)

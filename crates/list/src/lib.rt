@@ -3,7 +3,6 @@
 
 mod lifecycle;
 mod slots;
-mod source_list;
 
 pub use lifecycle::Lifecycle;
 pub use slots::{Place, Slot, SourceList};

@@ -1,79 +1,76 @@
 // The sources that want hooks, by token.
-ghost use Rattle.std.specs.Prelude.{◌≡◌, ◌≤◌, [], length, IfOk, vec_len, vec_capacity, nat_le};
+ghost use Rattle.std.specs.Prelude.{◌≡◌, ◌≤◌, [], length, IfOk, nat_le};
 ghost use Rattle.token.specs.Refusal.{outcome};
-ghost use Rattle.list.specs.Entries.{apart, enter_of, left};
+ghost use Rattle.list.specs.Entries.{enter_of, left};
 ghost use Rattle.std.specs.List.{slice_get};
 
-use retain::{Keep, retain};
+use bounded::Bounded;
 use std::alloc::{AllocError, Global};
+use std::marker::Model;
 use token::{Error, Token};
 
 #[derive(Drop)]
 pub struct Lifecycle {
-    entries: Vec<Token>,
-    ghost room: { 128 ≤ vec_capacity entries },
-    ghost few: { vec_len entries ≤ 128 },
+    entries: Bounded<Token, 128>,
 }
 
-// Every entry but those of a token's source.
-#[derive(Drop)]
-struct OtherThan {
-    token: Token,
-}
+// Clauses see the entries alone.
+impl Model for Lifecycle {
+    ghost use Rattle.std.specs.Prelude.{List};
+    ghost use Rattle.token.specs.declared.token.Token.{Token};
 
-impl Keep<Token> for OtherThan {
-    ghost passes = { λ s t. apart s.token t };
+    ghost Value = { List Token };
 
-    fn keeps(&self, entry: Token) -> bool {
-        !entry.same_source_as(self.token)
-    }
+    ghost view = { λ l. l.entries.items.items };
 }
 
 impl Lifecycle {
     pub fn new(heap: Global) -> Result<Lifecycle, AllocError>
-        ensures { IfOk result (λ l. l.entries.items ≡ []) }
+        ensures { IfOk result (λ l. l ≡ []) }
     {
-        let entries = Vec::with_capacity(heap, 128)?;
+        let entries = Bounded::new(heap)?;
         Ok(Lifecycle { entries })
     }
 
     pub fn len(&self) -> usize
-        ensures { result ≡ length self.now.entries.items }
+        ensures is { result ≡ length self.now }
+        ensures few { result ≤ 128 }
     {
-        self.entries.len()
+        self.entries.items.len()
+    }
+
+    pub fn as_slice(&self) -> &[Token]
+        ensures { result.now ≡ self.now }
+    {
+        self.entries.items.as_slice()
     }
 
     // The i-th entry.
     pub fn get(&self, i: usize) -> Option<Token>
-        ensures { result ≡ slice_get self.now.entries.items i }
+        ensures { result ≡ slice_get self.now i }
     {
-        if i < self.entries.len() {
-            Some(self.entries[i])
-        } else {
-            None
-        }
+        self.entries.items.get(i).copied()
     }
 
     pub fn is_full(&self) -> bool
-        ensures { result ≡ nat_le 128 (length self.now.entries.items) }
+        ensures { result ≡ nat_le 128 (length self.now) }
     {
-        self.entries.len() >= 128
+        self.entries.is_full()
     }
 
     pub fn enter(&mut self, token: Token) -> Result<(), Error>
-        ensures { (outcome result, self.new.entries.items) ≡ enter_of token self.old.entries.items }
+        ensures { (outcome result, self.new) ≡ enter_of token self.old }
     {
-        if self.entries.len() >= 128 {
-            return Err(Error::LifecycleFull);
-        }
-        self.entries.push_reserved(token);
-        Ok(())
+        let entered = self.entries.try_push(token);
+        entered.map_err(|_| Error::LifecycleFull)
     }
 
     // Drops the entries of the token's source.
     pub fn drop_all(&mut self, token: Token)
-        ensures { self.new.entries.items ≡ left token self.old.entries.items }
+        ensures { self.new ≡ left token self.old }
     {
-        retain(&mut self.entries, &OtherThan { token });
+        self.entries
+            .items
+            .retain(|entry| !entry.same_source_as(token));
     }
 }

@@ -1,7 +1,17 @@
-// The slots' types alone, so that specs may name them.
-ghost use Rattle.std.specs.Prelude.{◌≤◌, vec_len, vec_capacity};
+// The slots, and what stands in each. Only `new` allocates.
+ghost use Rattle.std.specs.Prelude.{◌≡◌, ◌<◌, ◌≤◌, not, [], ◌++◌, length, IfOk, MatchOption};
+ghost use Rattle.std.specs.Fn.{FnOnceReturnsAtMut};
+ghost use Rattle.std.specs.List.{position};
+ghost use Rattle.std.specs.Option.{option_to_list};
 
-// What stands in a slot. A source whose event is being handled is out of its slot, which stays occupied.
+use bounded::Bounded;
+use std::alloc::{AllocError, Global};
+use std::marker::Model;
+use std::mem;
+use token::Token;
+
+// What stands in a slot. A source whose event is being handled is out of its slot, which stays occupied:
+// a third state, so this is no Option.
 pub enum Place<S> {
     Empty,
     Occupied(S),
@@ -13,8 +23,166 @@ pub struct Slot<S> {
     pub place: Place<S>,
 }
 
+// A token names a slot by its place, as in calloop, so the slots are a list.
 pub struct SourceList<S> {
-    pub(crate) slots: Vec<Slot<S>>,
-    ghost room: { 1024 ≤ vec_capacity slots },
-    ghost few: { vec_len slots ≤ 1024 },
+    pub(crate) slots: Bounded<Slot<S>, 1024>,
+}
+
+// Clauses see the slots alone.
+impl<S> Model for SourceList<S> {
+    ghost use Rattle.std.specs.Prelude.{List};
+    ghost use Rattle.list.specs.declared.slots.Slot.{Slot};
+
+    ghost Value = { List (Slot S) };
+
+    ghost view = { λ l. l.slots.items.items };
+}
+
+impl<S> Place<S> {
+    ghost use Rattle.list.specs.Slots.{occupied};
+
+    // Whether the slot is in use by a source.
+    fn is_occupied(&self) -> bool
+        ensures { result ≡ occupied self.now }
+    {
+        !matches!(self, Place::Empty)
+    }
+}
+
+impl<S> SourceList<S> {
+    ghost use Rattle.list.specs.declared.slots.Place.TheVariants.{Empty, Occupied, Handled};
+    ghost use Rattle.list.specs.Slots.{Filled, fitting, occupied, placed, slot_at, vacant_of};
+
+    pub fn new(heap: Global) -> Result<SourceList<S>, AllocError>
+        ensures { IfOk result (λ l. l ≡ []) }
+    {
+        let slots = Bounded::new(heap)?;
+        Ok(SourceList { slots })
+    }
+
+    // The lowest empty slot in use.
+    fn first_empty(&self) -> Option<usize>
+        ensures { result ≡ position (λ x. not (occupied x.place)) self.now }
+    {
+        self.slots
+            .items
+            .iter()
+            .position(|slot| !slot.place.is_occupied())
+    }
+
+    // Gives out the lowest empty slot in use at its next version, else the next unused one.
+    pub fn vacant_entry(&mut self) -> Option<Token>
+        ensures { (result, self.new) ≡ vacant_of self.old }
+    {
+        let i = self.first_empty().unwrap_or(self.slots.items.len());
+        let version = if let Some(slot) = self.slots.items.get_mut(i) {
+            slot.version = slot.version.wrapping_add(1);
+            slot.version
+        } else if self.slots.is_full() {
+            return None;
+        } else {
+            self.slots.items.push_reserved(Slot {
+                version: 0,
+                place: Place::Empty,
+            });
+            0
+        };
+        Some(Token {
+            id: i as u32,
+            version,
+            sub_id: 0,
+        })
+    }
+
+    // The slot that the token fits.
+    pub fn fits(&self, token: Token) -> Option<usize>
+        ensures is { result ≡ fitting self.now token }
+        ensures few { length self.now ≤ 1024 }
+    {
+        let i = token.id as usize;
+        let slot = self.slots.items.get(i)?;
+        (slot.place.is_occupied() && slot.version == token.version).then_some(i)
+    }
+
+    // Puts this into the slot, and answers what was there.
+    fn exchange(&mut self, i: usize, place: Place<S>) -> Place<S>
+        requires { i < length self.old }
+        ensures was { result ≡ (slot_at self.old i).place }
+        ensures after { self.new ≡ placed self.old i place }
+    {
+        mem::replace(&mut self.slots.items[i].place, place)
+    }
+
+    // Takes the source out of its slot, which is then marked as handled.
+    pub fn take_out(&mut self, i: usize) -> S
+        requires within { i < length self.old }
+        requires there { Filled (slot_at self.old i).place }
+        ensures was { (slot_at self.old i).place ≡ Occupied result }
+        ensures after { self.new ≡ placed self.old i Handled }
+    {
+        match self.exchange(i, Place::Handled) {
+            Place::Occupied(source) => source,
+            Place::Empty => unreachable(),
+            Place::Handled => unreachable(),
+        }
+    }
+
+    // Lets a call change the source where it stands.
+    pub fn with_source<R, F: FnOnce(&mut S) -> R>(&mut self, i: usize, ask: F) -> R
+        requires within { i < length self.old }
+        requires there { Filled (slot_at self.old i).place }
+        requires callable { F.IsAlwaysCallable ask }
+        ensures { (s : S) × (t : S) × ((slot_at self.old i).place ≡ Occupied s) × (self.new ≡ placed self.old i (Occupied t)) × FnOnceReturnsAtMut F.FnOnce ask s result t }
+    {
+        match &mut self.slots.items[i].place {
+            Place::Occupied(source) => ask(source),
+            Place::Empty | Place::Handled => unreachable(),
+        }
+    }
+
+    // Puts this into a slot that has no source in it.
+    fn put(&mut self, i: usize, place: Place<S>)
+        requires within { i < length self.old }
+        requires there { Filled (slot_at self.old i).place → ⊥ }
+        ensures { self.new ≡ placed self.old i place }
+    {
+        match self.exchange(i, place) {
+            Place::Occupied(_old) => unreachable(),
+            Place::Empty | Place::Handled => {}
+        }
+    }
+
+    // Puts a source into a slot that has none.
+    pub fn fill(&mut self, i: usize, source: S)
+        requires within { i < length self.old }
+        requires there { Filled (slot_at self.old i).place → ⊥ }
+        ensures { self.new ≡ placed self.old i (Occupied source) }
+    {
+        self.put(i, Place::Occupied(source));
+    }
+
+    // Empties a slot that has no source in it.
+    pub fn empty(&mut self, i: usize)
+        requires within { i < length self.old }
+        requires there { Filled (slot_at self.old i).place → ⊥ }
+        ensures { self.new ≡ placed self.old i Empty }
+    {
+        self.put(i, Place::Empty);
+    }
+
+    // Takes the last slot in use apart; none where no slot is in use.
+    pub fn take_last(&mut self) -> Option<Slot<S>>
+        ensures items { self.old ≡ self.new ++ option_to_list result }
+        ensures cases { MatchOption result (self.new ≡ []) (λ _. length self.new < length self.old) }
+    {
+        self.slots.items.pop()
+    }
+
+    // Ends a list with no slot in use.
+    pub fn end(self)
+        requires { self ≡ [] }
+    {
+        let SourceList { slots } = self;
+        slots.items.destroy_empty();
+    }
 }

@@ -1,7 +1,6 @@
 -- A source with one file keeps the rules of source kinds.
-use Rattle.std.proofs.Common.{◌≡◌, ℕ, Bool, ◌⊎◌, List, [], Some, None, Option, sym, refl, subst, inl, inr}
+use Rattle.std.proofs.Common.{◌≡◌, ℕ, Bool, ◌⊎◌, List, [], Some, None, Option, sym, refl, subst, inl, inr, rules}
 use Rattle.std.specs.Option.{option_map}
-use Rattle.token.specs.declared.token.Token.{Token}
 use Rattle.token.specs.Key.{key_of}
 use Rattle.token.specs.Refusal.{Outcome, done, refused}
 use Rattle.poller.specs.Meaning.{Answer, Fate}
@@ -10,56 +9,55 @@ use Rattle.sys.specs.World.{Exchange, World, register_of, reregister_of, unregis
 use Rattle.rules.specs.Calls.{Came, Went, drawn_to}
 use Rattle.rules.specs.Kinds.{Free, LettingGo, Reaches, Registering, Reregistering, Unregistering}
 use Rattle.rules.specs.Meaning.{Drawer, Drawn, Forward, Meaning, Nothing}
-use Rattle.rules.proofs.Drawing.{none_drawn, not_done, stays_put}
-use Rattle.rules.proofs.Files.{some_eq}
+use Rattle.rules.proofs.Drawing.{none_drawn, stays_put}
 use Rattle.rules.proofs.Steps.{let_go_reaches, reaches_same, reaches_then, reaches_weaker, registered_reaches, reregistered_reaches, unregistered_reaches}
 use Rattle.one_file.specs.declared.one_file.OneFile.{OneFile}
+use Rattle.one_file.specs.declared.tickets.Tickets.{Ghosts as TicketsOf}
 use Rattle.one_file.specs.Tickets.{DrawnFrom, Fresh, Kept}
-use Rattle.one_file.specs.Calls.{after, cleared, entered, keys_in, left, line_of, meaning, register_by, reregister_by, unregister_by, with_tickets}
+use Rattle.one_file.specs.Calls.{Leaves, Registers, Reregisters, Unregisters, after, cleared, entered, keys_in, left, line_of, meaning, reregister_by, unregister_by, with_tickets}
 
-module _ {T : Type 0} (token : T → Token) (keys : T → List ℕ) (hooks : Bool) (s : OneFile T) where
+module _ {T : Type 0} (tickets : TicketsOf T) (hooks : Bool) (s : OneFile T) where
   abbrev means : OneFile T → Meaning
-  means b = meaning token keys b hooks
+  means b = meaning tickets b hooks
 
   abbrev key_at : Option T → Option ℕ
-  key_at o = option_map (λ (t : T). key_of (token t)) o
+  key_at o = option_map (λ (t : T). key_of (tickets.main t)) o
 
   -- LETTING GO
 
   clear_reaches : (o : Option T) (w : World) (fate : Fate)
       → Reaches Nothing (means (with_tickets s o)) w (cleared s o w fate).exchanges (means (with_tickets s None)) (cleared s o w fate).world
-  clear_reaches None w fate = reaches_same Nothing _ _ w (record { held = refl; entered = refl; counters = refl; hooks = refl })
-  clear_reaches (Some t) w fate = let_go_reaches (keys t) [] hooks s.file (key_of (token t)) w fate
+  clear_reaches None w fate = reaches_same Nothing _ _ w (search rules)
+  clear_reaches (Some t) w fate = let_go_reaches (tickets.keys t) [] hooks s.file (key_of (tickets.main t)) w fate
 
   leaving : (o : Option T) (w : World) (fate : Fate)
       → LettingGo (means (with_tickets s o)) w (cleared s o w fate).exchanges (means (cleared s o w fate).source) (cleared s o w fate).world
   leaving None w fate = record { reaches = clear_reaches None w fate; drew = λ k m. elim m [ ]; free = record { held = refl; entered = refl } }
   leaving (Some t) w fate = record { reaches = clear_reaches (Some t) w fate; drew = λ k m. elim m [ ]; free = record { held = refl; entered = refl } }
 
-  pub leaves_lawful : (w : World) (fate : Fate) (c : Went (OneFile T)) → c ≡ cleared s s.tickets w fate
-      → LettingGo (means s) w c.exchanges (means c.source) c.world
-  leaves_lawful w fate c e = subst (λ (x : Went (OneFile T)). LettingGo (means s) w x.exchanges (means x.source) x.world) (sym e) (leaving s.tickets w fate)
+  pub leaves_lawful : (w : World) (xs : List Exchange) (s' : OneFile T) (w' : World) → Leaves s w xs s' w' → LettingGo (means s) w xs (means s') w'
+  leaves_lawful w xs s' w' h = subst (λ (x : Went (OneFile T)). LettingGo (means s) w x.exchanges (means x.source) x.world) (sym h.1) (leaving s.tickets w h.0)
 
   -- REGISTERING
 
-  new_keys : (D : ℕ → Type 0) (t : T) (old : Option T) (r : Answer) → Kept D (token t) (keys t) → (k : ℕ) → In k (keys_in keys (after r t old)) → In k (keys_in keys old) ⊎ D k
+  new_keys : (D : ℕ → Type 0) (t : T) (old : Option T) (r : Answer) → Kept D (tickets.main t) (tickets.keys t) → (k : ℕ) → In k (keys_in tickets.keys (after r t old)) → In k (keys_in tickets.keys old) ⊎ D k
   new_keys D t old (done u) d k m = inr (d.all k m)
   new_keys D t old (refused n c) d k m = inl m
 
-  only_new : (D : ℕ → Type 0) (t : T) (old : Option T) (r : Answer) → Kept D (token t) (keys t) → r ≡ done tt → (k : ℕ) → In k (keys_in keys (after r t old)) → D k
+  only_new : (D : ℕ → Type 0) (t : T) (old : Option T) (r : Answer) → Kept D (tickets.main t) (tickets.keys t) → r ≡ done tt → (k : ℕ) → In k (keys_in tickets.keys (after r t old)) → D k
   only_new D t old (done u) d e k m = d.all k m
-  only_new D t old (refused n c) d e k m = absurd (not_done n c e)
+  only_new D t old (refused n c) d e k m = cc
 
   refused_free : (t : T) (r : Answer) (n : ℕ) (c : Option ℕ) → r ≡ refused n c → Free (means (with_tickets s (after r t None)))
-  refused_free t (done u) n c e = absurd (not_done n c (sym e))
+  refused_free t (done u) n c e = cc
   refused_free t (refused m b) n c e = record { held = refl; entered = refl }
 
-  module _ (draws : Drawer → Outcome T × ℕ) (law : (d : Drawer) → DrawnFrom token keys d (draws d).0 (draws d).1) (w : World) (d : Drawer) where
-    draw_on : Forward d (drawn_to d (draws d).1)
+  module _ (law : (d : Drawer) → DrawnFrom tickets.main tickets.keys d (tickets.draws d).0 (tickets.draws d).1) (w : World) (d : Drawer) where
+    draw_on : Forward d (drawn_to d (tickets.draws d).1)
     draw_on = record { id = refl; version = refl; next = (law d).forward }
 
     abbrev D : ℕ → Type 0
-    D = Drawn d (drawn_to d (draws d).1)
+    D = Drawn d (drawn_to d (tickets.draws d).1)
 
     module _ (first second : Fate) where
       abbrev bare : OneFile T
@@ -71,9 +69,9 @@ module _ {T : Type 0} (token : T → Token) (keys : T → List ℕ) (hooks : Boo
       abbrev before : List Exchange
       before = (cleared s s.tickets w first).exchanges
 
-      registering : (o : Outcome T) → Fresh token keys D o
+      registering : (o : Outcome T) → Fresh tickets.main tickets.keys D o
           → (λ (c : Came (OneFile T)). Registering (means s) w d c.exchanges c.answer (means c.source) c.world c.drawer)
-          (entered token draws (λ l v. register_of l s.mode v second) bare o mid (drawn_to d (draws d).1) before)
+          (entered tickets (λ l v. register_of l s.mode v second) bare o mid (drawn_to d (tickets.draws d).1) before)
       registering (refused n c) f = record {
         reaches = reaches_weaker Nothing D _ _ w mid before (none_drawn D) (clear_reaches s.tickets w first);
         draws = draw_on;
@@ -81,80 +79,80 @@ module _ {T : Type 0} (token : T → Token) (keys : T → List ℕ) (hooks : Boo
         refusing = λ n c e. record { held = refl; entered = refl };
       }
       registering (done t) f =
-          let c = register_of (line_of bare (token t)) s.mode mid second in
+          let c = register_of (line_of bare (tickets.main t)) s.mode mid second in
           record {
             reaches = reaches_then Nothing D D _ (means bare) _ w mid _ before _ (none_drawn D) (λ k e. e) (clear_reaches s.tickets w first)
-                (registered_reaches (λ r. key_at (after r t None)) [] (keys_in keys (after c.answer t None)) hooks D (line_of bare (token t)) s.mode mid second f.file refl (λ n c. refl));
+                (registered_reaches (λ r. key_at (after r t None)) [] (keys_in tickets.keys (after c.answer t None)) hooks D (line_of bare (tickets.main t)) s.mode mid second f.file refl (λ n c. refl));
             draws = draw_on;
             drew = λ k m. elim (new_keys D t None c.answer f k m) [ inl q ↦ elim q [ ] | inr q ↦ q ];
             refusing = λ n b e. refused_free t c.answer n b e;
           }
 
-      pub registers_lawful : (c : Came (OneFile T)) → c ≡ register_by token draws s w d first second
-          → Registering (means s) w d c.exchanges c.answer (means c.source) c.world c.drawer
-      registers_lawful c e =
-          subst (λ (x : Came (OneFile T)). Registering (means s) w d x.exchanges x.answer (means x.source) x.world x.drawer) (sym e) (registering (draws d).0 (law d).fresh)
+    pub registers_lawful : (xs : List Exchange) (r : Answer) (s' : OneFile T) (w' : World) (d' : Drawer) → Registers tickets s w d xs r s' w' d'
+        → Registering (means s) w d xs r (means s') w' d'
+    registers_lawful xs r s' w' d' h =
+        subst (λ (x : Came (OneFile T)). Registering (means s) w d x.exchanges x.answer (means x.source) x.world x.drawer) (sym h.2) (registering h.0 h.1 (tickets.draws d).0 (law d).fresh)
 
     module _ (fate : Fate) where
-      altering : (old : T) (o : Outcome T) → Fresh token keys D o
+      altering : (old : T) (o : Outcome T) → Fresh tickets.main tickets.keys D o
           → (λ (c : Came (OneFile T)). Reregistering (means (with_tickets s (Some old))) w d c.exchanges c.answer (means c.source) c.world c.drawer)
-          (entered token draws (λ l v. reregister_of l s.mode v fate) (with_tickets s (Some old)) o w (drawn_to d (draws d).1) [])
+          (entered tickets (λ l v. reregister_of l s.mode v fate) (with_tickets s (Some old)) o w (drawn_to d (tickets.draws d).1) [])
       altering old (refused n c) f = record {
-        reaches = reaches_same D _ _ w (record { held = refl; entered = refl; counters = refl; hooks = refl });
+        reaches = reaches_same D _ _ w (search rules);
         draws = draw_on;
         drew = λ k m. inl m;
-        accepting = λ e. absurd (not_done n c e);
+        accepting = λ e. cc;
       }
       altering old (done t) f =
-          let c = reregister_of (line_of s (token t)) s.mode w fate in
+          let c = reregister_of (line_of s (tickets.main t)) s.mode w fate in
           record {
-            reaches = reregistered_reaches (λ r. key_at (after r t (Some old))) (keys old) (keys_in keys (after c.answer t (Some old))) hooks D (line_of s (token t)) s.mode w fate f.file refl (key_of (token old)) (λ n c. refl);
+            reaches = reregistered_reaches (λ r. key_at (after r t (Some old))) (tickets.keys old) (keys_in tickets.keys (after c.answer t (Some old))) hooks D (line_of s (tickets.main t)) s.mode w fate f.file refl (key_of (tickets.main old)) (λ n c. refl);
             draws = draw_on;
             drew = λ k m. new_keys D t (Some old) c.answer f k m;
             accepting = λ e k m. only_new D t (Some old) c.answer f e k m;
           }
 
       reregistering : (o : Option T) → (λ (c : Came (OneFile T)). Reregistering (means (with_tickets s o)) w d c.exchanges c.answer (means c.source) c.world c.drawer)
-          (reregister_by token draws (with_tickets s o) o w d fate)
+          (reregister_by tickets (with_tickets s o) o w d fate)
       reregistering None = record {
-        reaches = reaches_same _ _ _ w (record { held = refl; entered = refl; counters = refl; hooks = refl });
+        reaches = reaches_same _ _ _ w (search rules);
         draws = stays_put d;
         drew = λ k m. inl m;
-        accepting = λ e. absurd (not_done 12 None e);
+        accepting = λ e. cc;
       }
-      reregistering (Some old) = altering old (draws d).0 (law d).fresh
+      reregistering (Some old) = altering old (tickets.draws d).0 (law d).fresh
 
-      pub reregisters_lawful : (c : Came (OneFile T)) → c ≡ reregister_by token draws s s.tickets w d fate
-          → Reregistering (means s) w d c.exchanges c.answer (means c.source) c.world c.drawer
-      reregisters_lawful c e =
-          subst (λ (x : Came (OneFile T)). Reregistering (means s) w d x.exchanges x.answer (means x.source) x.world x.drawer) (sym e) (reregistering s.tickets)
+    pub reregisters_lawful : (xs : List Exchange) (r : Answer) (s' : OneFile T) (w' : World) (d' : Drawer) → Reregisters tickets s w d xs r s' w' d'
+        → Reregistering (means s) w d xs r (means s') w' d'
+    reregisters_lawful xs r s' w' d' h =
+        subst (λ (x : Came (OneFile T)). Reregistering (means s) w d x.exchanges x.answer (means x.source) x.world x.drawer) (sym h.1) (reregistering h.0 s.tickets)
 
   -- UNREGISTERING
 
-  fewer_keys : (t : T) (r : Answer) (k : ℕ) → In k (keys_in keys (left r (Some t))) → In k (keys t)
+  fewer_keys : (t : T) (r : Answer) (k : ℕ) → In k (keys_in tickets.keys (left r (Some t))) → In k (tickets.keys t)
   fewer_keys t (done u) k m = elim m [ ]
   fewer_keys t (refused n c) k m = m
 
   accepted_none : (t : T) (r : Answer) → r ≡ done tt → (means (with_tickets s (left r (Some t)))).held ≡ []
   accepted_none t (done u) e = refl
-  accepted_none t (refused n c) e = absurd (not_done n c e)
+  accepted_none t (refused n c) e = cc
 
   unregistering : (w : World) (fate : Fate) (o : Option T) → (λ (c : Went (OneFile T)). Unregistering (means (with_tickets s o)) w c.exchanges c.answer (means c.source) c.world)
       (unregister_by (with_tickets s o) o w fate)
   unregistering w fate None = record {
-    reaches = reaches_same _ _ _ w (record { held = refl; entered = refl; counters = refl; hooks = refl });
+    reaches = reaches_same _ _ _ w (search rules);
     drew = λ k m. m;
-    accepting = λ e. absurd (not_done 12 None e);
+    accepting = λ e. cc;
   }
   unregistering w fate (Some t) =
       let c = unregister_of s.file w fate in
       record {
-        reaches = unregistered_reaches (λ r. key_at (left r (Some t))) (keys t) (keys_in keys (left c.answer (Some t))) hooks s.file (key_of (token t)) w fate refl (λ j b i e. some_eq i (key_of (token t)) (sym e));
+        reaches = unregistered_reaches (λ r. key_at (left r (Some t))) (tickets.keys t) (keys_in tickets.keys (left c.answer (Some t))) hooks s.file (key_of (tickets.main t)) w fate refl (λ j b i e. cc);
         drew = λ k m. fewer_keys t c.answer k m;
         accepting = λ e. accepted_none t c.answer e;
       }
 
-  pub unregisters_lawful : (w : World) (fate : Fate) (c : Went (OneFile T)) → c ≡ unregister_by s s.tickets w fate
-      → Unregistering (means s) w c.exchanges c.answer (means c.source) c.world
-  unregisters_lawful w fate c e =
-      subst (λ (x : Went (OneFile T)). Unregistering (means s) w x.exchanges x.answer (means x.source) x.world) (sym e) (unregistering w fate s.tickets)
+  pub unregisters_lawful : (w : World) (xs : List Exchange) (r : Answer) (s' : OneFile T) (w' : World) → Unregisters s w xs r s' w'
+      → Unregistering (means s) w xs r (means s') w'
+  unregisters_lawful w xs r s' w' h =
+      subst (λ (x : Went (OneFile T)). Unregistering (means s) w x.exchanges x.answer (means x.source) x.world) (sym h.1) (unregistering w h.0 s.tickets)

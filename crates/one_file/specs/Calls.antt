@@ -7,10 +7,11 @@ use Rattle.token.specs.Refusal.{Outcome, done, refused, refusal}
 use Rattle.poller.specs.Meaning.{Answer, Fate}
 use Rattle.levels.specs.declared.table.Line.{Line}
 use Rattle.sys.specs.World.{Come, Exchange, World, let_go_of, register_of, reregister_of, unregister_of}
-use Rattle.rules.specs.Calls.{Came, Went, drawn_to}
+use Rattle.rules.specs.Calls.{Came, Went, came, drawn_to, went}
 use Rattle.rules.specs.Meaning.{Drawer, Meaning}
 use Rattle.rules.specs.OneFile.{one_file_of}
 use Rattle.one_file.specs.declared.one_file.OneFile.{OneFile}
+use Rattle.one_file.specs.declared.tickets.Tickets.{Ghosts as TicketsOf}
 
 -- the tickets after an accepted registration, or those before it
 abbrev pub after : {T : Type 0} → Answer → T → Option T → Option T
@@ -29,11 +30,11 @@ keys_in keys (Some t) = keys t
 
 module _ {T : Type 0} where
   -- its file stands under the token of its tickets
-  abbrev pub meaning : (T → Token) → (T → List ℕ) → OneFile T → Bool → Meaning
-  meaning token keys s hooks = one_file_of s.file (option_map (λ (t : T). key_of (token t)) s.tickets) (keys_in keys s.tickets) hooks
+  abbrev pub meaning : TicketsOf T → OneFile T → Bool → Meaning
+  meaning tickets s hooks = one_file_of s.file (option_map (λ (t : T). key_of (tickets.main t)) s.tickets) (keys_in tickets.keys s.tickets) hooks
 
   abbrev pub with_tickets : OneFile T → Option T → OneFile T
-  with_tickets s t = record { file = s.file; interest = s.interest; mode = s.mode; tickets = t }
+  with_tickets s t = record s { tickets = t }
 
   -- its file under the token, as the level table knows it
   abbrev pub line_of : OneFile T → Token → Line
@@ -45,34 +46,24 @@ module _ {T : Type 0} where
   cleared s None w fate = record { answer = done tt; source = with_tickets s None; world = w; exchanges = [] }
   cleared s (Some t) w fate = record { answer = done tt; source = with_tickets s None; world = (let_go_of s.file w fate).world; exchanges = (let_go_of s.file w fate).exchanges }
 
-  pub record Clears (s : OneFile T) (w : World) (s' : OneFile T) (w' : World) (Exchanges : List Exchange → Type 0) : Type 0 where
-    pub fate : Fate
-    pub source : s' ≡ with_tickets s None
-    pub world : w' ≡ (cleared s s.tickets w fate).world
-    pub exchanged : Exchanges (cleared s s.tickets w fate).exchanges
+  -- letting go came to this, for one fate
+  abbrev pub Leaves : OneFile T → World → List Exchange → OneFile T → World → Type 0
+  Leaves s w xs s' w' = (fate : Fate) × (went xs (done tt) s' w' ≡ cleared s s.tickets w fate)
 
   -- REGISTERING
-
-  -- the file was registered, and the tickets are kept if that was accepted
-  pub record Enters (of : Fate → Come) (s : OneFile T) (t : T) (r : Answer) (s' : OneFile T) (w' : World) (Exchanges : List Exchange → Type 0) : Type 0 where
-    pub fate : Fate
-    pub answer : r ≡ (of fate).answer
-    pub source : s' ≡ with_tickets s (after (of fate).answer t s.tickets)
-    pub world : w' ≡ (of fate).world
-    pub exchanged : Exchanges (of fate).exchanges
 
   -- the polling system answered a registration
   abbrev pub registered : OneFile T → T → Come → Drawer → List Exchange → Came (OneFile T)
   registered s t c d xs = record { answer = c.answer; source = with_tickets s (after c.answer t s.tickets); world = c.world; drawer = d; exchanges = xs ++ c.exchanges }
 
-  module _ (token : T → Token) (draws : Drawer → Outcome T × ℕ) where
+  module _ (tickets : TicketsOf T) where
     -- with tickets in hand the file is registered under their token
     abbrev pub entered : (Line → World → Come) → OneFile T → Outcome T → World → Drawer → List Exchange → Came (OneFile T)
     entered of s (refused n c) w d xs = record { answer = refused n c; source = s; world = w; drawer = d; exchanges = xs }
-    entered of s (done t) w d xs = registered s t (of (line_of s (token t)) w) d xs
+    entered of s (done t) w d xs = registered s t (of (line_of s (tickets.main t)) w) d xs
 
     abbrev pub drawn : (Line → World → Come) → OneFile T → World → Drawer → List Exchange → Came (OneFile T)
-    drawn of s w d xs = entered of s (draws d).0 w (drawn_to d (draws d).1) xs
+    drawn of s w d xs = entered of s (tickets.draws d).0 w (drawn_to d (tickets.draws d).1) xs
 
     -- register: a file that it still holds is given up first
     abbrev pub register_by : OneFile T → World → Drawer → Fate → Fate → Came (OneFile T)
@@ -84,16 +75,15 @@ module _ {T : Type 0} where
     reregister_by s None w d fate = record { answer = refusal 12; source = s; world = w; drawer = d; exchanges = [] }
     reregister_by s (Some t) w d fate = drawn (λ l v. reregister_of l s.mode v fate) s w d []
 
+    abbrev pub Registers : OneFile T → World → Drawer → List Exchange → Answer → OneFile T → World → Drawer → Type 0
+    Registers s w d xs r s' w' d' = (first : Fate) × (second : Fate) × (came xs r s' w' d' ≡ register_by s w d first second)
+
+    abbrev pub Reregisters : OneFile T → World → Drawer → List Exchange → Answer → OneFile T → World → Drawer → Type 0
+    Reregisters s w d xs r s' w' d' = (fate : Fate) × (came xs r s' w' d' ≡ reregister_by s s.tickets w d fate)
+
   -- UNREGISTERING
 
   -- the file was deleted from the poller, and the tickets are forgotten if that was accepted
-  pub record Drops (of : Fate → Come) (s : OneFile T) (r : Answer) (s' : OneFile T) (w' : World) (Exchanges : List Exchange → Type 0) : Type 0 where
-    pub fate : Fate
-    pub answer : r ≡ (of fate).answer
-    pub source : s' ≡ with_tickets s (left (of fate).answer s.tickets)
-    pub world : w' ≡ (of fate).world
-    pub exchanged : Exchanges (of fate).exchanges
-
   abbrev pub dropped : OneFile T → Come → Went (OneFile T)
   dropped s c = record { answer = c.answer; source = with_tickets s (left c.answer s.tickets); world = c.world; exchanges = c.exchanges }
 
@@ -101,3 +91,6 @@ module _ {T : Type 0} where
   abbrev pub unregister_by : OneFile T → Option T → World → Fate → Went (OneFile T)
   unregister_by s None w fate = record { answer = refusal 12; source = s; world = w; exchanges = [] }
   unregister_by s (Some t) w fate = dropped s (unregister_of s.file w fate)
+
+  abbrev pub Unregisters : OneFile T → World → List Exchange → Answer → OneFile T → World → Type 0
+  Unregisters s w xs r s' w' = (fate : Fate) × (went xs r s' w' ≡ unregister_by s s.tickets w fate)

@@ -1,2 +1,3 @@
 pub mod Tickets
 pub mod Calls
+pub mod Alone

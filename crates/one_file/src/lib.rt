@@ -1,7 +1,6 @@
 // One file of a source: its registration, written and proved once for every kind that has one.
 #![tactic(auto)]
 
-mod calls;
 mod one_file;
 mod tickets;
 

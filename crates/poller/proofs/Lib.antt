@@ -1,1 +1,5 @@
-pub mod Finding
+pub mod Standing
+pub mod Outcomes
+pub mod Reporting
+pub mod Benching
+pub mod Lining

@@ -8,7 +8,8 @@ use Rattle.poller.specs.declared.bench.Step.TheVariants.{Work, Fail, Interrupt}
 use Rattle.poller.specs.declared.bench.BenchPoller.{BenchPoller}
 use Rattle.poller.specs.Meaning.{Answer, Fate, works, fails, add_of, modify_of, delete_of, among, told}
 use Rattle.poller.specs.Places.{entries_of}
-use Rattle.poller.specs.Register.{Request, entry_of}
+use Rattle.poller.specs.declared.entry.Request.{Request}
+use Rattle.poller.specs.Register.{entry_of}
 use Rattle.poller.specs.Reports.{ripe, events_of}
 
 pub record BenchView : Type 0 where
@@ -18,6 +19,7 @@ pub record BenchView : Type 0 where
   -- what the next calls come to
   pub steps : List Step
 
+-- a function and no model: the laws read the table's facts
 abbrev pub bench_of : BenchPoller → BenchView
 bench_of p = record { entries = entries_of p.table; ready = vec_items p.ready; steps = vec_items p.steps }
 
@@ -34,10 +36,10 @@ fate_by Interrupt = works
 
 -- a call takes its step
 abbrev pub stepped : BenchView → BenchView
-stepped v = record { entries = v.entries; ready = v.ready; steps = drop 1 v.steps }
+stepped v = record v { steps = drop 1 v.steps }
 
 abbrev pub called : BenchView → Answer × List Entry → Answer × BenchView
-called v o = (o.0, record { entries = o.1; ready = v.ready; steps = drop 1 v.steps })
+called v o = (o.0, record v { entries = o.1; steps = drop 1 v.steps })
 
 abbrev pub bench_add : BenchView → Request → Answer × BenchView
 bench_add v q = called v (add_of 256 v.entries q (fate_by (step_of v.steps)))

@@ -4,8 +4,4 @@ pub mod Places
 pub mod Reports
 pub mod Bench
 pub mod Line
-pub mod Benching
-pub mod Outcomes
-pub mod Standing
-pub mod Reporting
-pub mod Lining
+pub mod Waits

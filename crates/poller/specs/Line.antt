@@ -1,5 +1,6 @@
 -- The poller of a board's lines, over plain values.
-use Rattle.std.specs.Prelude.{◌≡◌, ℕ, zero, suc, ◌/◌, ◌%◌, ◌^◌, Bool, true, false, cond, not, List, [], ◌∷◌, ◌++◌, map, Some, None, Option, ◌==◌, nat_lt}
+use Rattle.std.specs.Prelude.{◌≡◌, ℕ, zero, suc, Bool, true, false, cond, not, List, [], ◌∷◌, ◌++◌, map, Some, None, Option, ◌==◌, nat_lt}
+use Rattle.std.specs.Int.{bit_at}
 use Rattle.token.specs.Refusal.{done}
 use Rattle.poller.specs.declared.entry.Entry.{Entry}
 use Rattle.poller.specs.declared.entry.Event.{Event}
@@ -8,7 +9,8 @@ use Rattle.poller.specs.declared.entry.Mode.TheVariants.{OneShot, Level, Edge}
 use Rattle.poller.specs.declared.line.LinePoller.{LinePoller}
 use Rattle.poller.specs.Meaning.{Answer, Fate, works, fails, add_of, modify_of, delete_of, told}
 use Rattle.poller.specs.Places.{entries_of}
-use Rattle.poller.specs.Register.{Request, entry_of}
+use Rattle.poller.specs.declared.entry.Request.{Request}
+use Rattle.poller.specs.Register.{entry_of}
 use Rattle.poller.specs.Reports.{ripe, events_of}
 
 pub record LineView : Type 0 where
@@ -18,11 +20,12 @@ pub record LineView : Type 0 where
   -- those that have risen since the last wait
   pub risen : ℕ
 
+-- a function and no model: the laws read the table's facts
 abbrev pub line_of : LinePoller → LineView
 line_of p = record { entries = entries_of p.table; lines = p.lines; risen = p.risen }
 
 abbrev pub bit : ℕ → ℕ → Bool
-bit n f = n / 2 ^ f % 2 == 1
+bit n f = bit_at n f == 1
 
 -- the lines are set: a line that was clear and is set now has risen
 pub record LinesSet (v : LineView) (n : ℕ) (v' : LineView) : Type 0 where
@@ -35,7 +38,7 @@ abbrev pub line_fate : ℕ → Fate
 line_fate f = cond (nat_lt f 64) works (fails 9)
 
 abbrev pub line_called : LineView → Answer × List Entry → Answer × LineView
-line_called v o = (o.0, record { entries = o.1; lines = v.lines; risen = v.risen })
+line_called v o = (o.0, record v { entries = o.1 })
 
 abbrev pub line_add : LineView → Request → Answer × LineView
 line_add v q = line_called v (add_of 64 v.entries q (line_fate q.file))

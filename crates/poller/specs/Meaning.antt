@@ -5,7 +5,8 @@ use Rattle.poller.specs.declared.entry.Entry.{Entry}
 use Rattle.poller.specs.declared.entry.Event.{Event}
 use Rattle.poller.specs.declared.entry.Mode.{Mode}
 use Rattle.poller.specs.declared.entry.Mode.TheVariants.{OneShot, Level, Edge}
-use Rattle.poller.specs.Register.{Request, entry_of, holds, changed, removed, fresh, renewed, marked, disarmed}
+use Rattle.poller.specs.declared.entry.Request.{Request}
+use Rattle.poller.specs.Register.{entry_of, holds, changed, removed, fresh, renewed, marked, disarmed}
 
 abbrev pub Answer : Type 0
 Answer = Outcome (Unit {0})

@@ -5,17 +5,17 @@ ghost use Rattle.poller.specs.Meaning.{told};
 ghost use Rattle.poller.specs.Places.{entries_of, fate_of};
 ghost use Rattle.poller.specs.Reports.{Marks, Midst, events_of};
 ghost use Rattle.poller.specs.declared.entry.Entry.{Entry};
-ghost use Rattle.poller.specs.Benching.{bench_waits};
+ghost use Rattle.poller.specs.Waits.{bench_waits};
 ghost use Rattle.std.proofs.Common.{rules};
 
-use crate::entry::{Interest, Mode};
+use crate::entry::Request;
 use crate::events::Events;
 use crate::poller::Poller;
 use crate::table::Table;
 use std::alloc::{AllocError, Global};
 use token::Error;
 
-// What one call comes to.
+// What one call comes to: three outcomes and no other; a Result<(), Error> would let in refusals that no poller may give.
 #[derive(Clone, Copy, PartialEq, Eq, Debug)]
 pub enum Step {
     Work,
@@ -28,7 +28,7 @@ pub struct BenchPoller {
     pub(crate) table: Table,
     // the files that are ready, in the order of the script
     pub(crate) ready: Vec<u32>,
-    // what the next calls come to
+    // what the next calls come to; the plan is handed over whole, so it is no queue
     pub(crate) steps: Vec<Step>,
 }
 
@@ -46,14 +46,14 @@ impl BenchPoller {
 
     // These files are ready, until a wait reports.
     pub fn make_ready(&mut self, files: Vec<u32>)
-        ensures { bench_of self.new ≡ record { entries = (bench_of self.old).entries; ready = files.items; steps = (bench_of self.old).steps } }
+        ensures { bench_of self.new ≡ record (bench_of self.old) { ready = files.items } }
     {
         self.ready = files;
     }
 
     // What the next calls of add, modify, delete and wait come to, one step a call.
     pub fn plan(&mut self, steps: Vec<Step>)
-        ensures { bench_of self.new ≡ record { entries = (bench_of self.old).entries; ready = (bench_of self.old).ready; steps = steps.items } }
+        ensures { bench_of self.new ≡ record (bench_of self.old) { steps = steps.items } }
     {
         self.steps = steps;
     }
@@ -68,20 +68,20 @@ impl BenchPoller {
         self.steps.remove(0)
     }
 
-    // The code with which the next call fails, if it does.
-    fn next_fault(&mut self) -> Option<u32>
+    // Whether the next call works; an Err is the code with which it fails.
+    fn next_fate(&mut self) -> Result<(), u32>
         ensures value { fate_of result ≡ fate_by (step_of (bench_of self.old).steps) }
         ensures after { bench_of self.new ≡ stepped (bench_of self.old) }
     {
         match self.next_step() {
-            Step::Fail(code) => Some(code),
-            Step::Work => None,
-            Step::Interrupt => None,
+            Step::Fail(code) => Err(code),
+            Step::Work | Step::Interrupt => Ok(()),
         }
     }
 }
 
 // Reports the file's entry, unless it was told already or may not be reported.
+#[tactic(auto, using(crate::proofs::Reporting::marking_one))]
 fn consider(table: &mut Table, file: u32, told: &mut [bool; 256], events: &mut Events)
     requires { vec_len events.old.items ≡ count_by (λ b. b) told.old }
     ensures count { vec_len events.new.items ≡ count_by (λ b. b) told.new }
@@ -90,7 +90,8 @@ fn consider(table: &mut Table, file: u32, told: &mut [bool; 256], events: &mut E
     let Some(i) = table.find(file) else {
         return;
     };
-    if told[i] || !table.is_ripe(i) {
+    let entry = table.entries.items[i];
+    if told[i] || !entry.is_ripe() {
         return;
     }
     told[i] = true;
@@ -98,11 +99,13 @@ fn consider(table: &mut Table, file: u32, told: &mut [bool; 256], events: &mut E
 }
 
 // Reports the entries of the files that are ready, in their order, each entry once.
+#[tactic(auto, using(crate::proofs::Benching::stands_more, crate::proofs::Benching::stands_all))]
 fn report(table: &mut Table, ready: &[u32], events: &mut Events)
     requires { events.old.items.items ≡ [] }
     ensures entries { entries_of table.new ≡ map (told (reported (entries_of table.old) ready.now)) (entries_of table.old) }
     ensures events { events.new.items.items ≡ events_of (entries_of table.old) (reported (entries_of table.old) ready.now) }
 {
+    // a mark for each place of the table: a set of files would allocate
     let mut told = [false; 256];
     for file in ready {
         consider(table, *file, &mut told, events);
@@ -112,7 +115,7 @@ fn report(table: &mut Table, ready: &[u32], events: &mut Events)
 impl Poller for BenchPoller {
     const LEVEL: bool = false;
 
-    ghost level = { false };
+    ghost LEVEL = { false };
 
     ghost entries = { λ p. (bench_of p).entries };
 
@@ -136,23 +139,19 @@ impl Poller for BenchPoller {
 
     ghost waiting = { λ p t r vs p' e. (bench_waits (bench_of p) (bench_of p') r vs e, refl) };
 
-    fn level_mode(&self) -> bool {
-        Self::LEVEL
+    fn add(&mut self, request: Request) -> Result<(), Error> {
+        let fate = self.next_fate();
+        self.table.add(256, request, fate)
     }
 
-    fn add(&mut self, file: u32, key: u64, interest: Interest, mode: Mode) -> Result<(), Error> {
-        let fault = self.next_fault();
-        self.table.add(256, file, key, interest, mode, fault)
-    }
-
-    fn modify(&mut self, file: u32, key: u64, interest: Interest, mode: Mode) -> Result<(), Error> {
-        let fault = self.next_fault();
-        self.table.modify(file, key, interest, mode, fault)
+    fn modify(&mut self, request: Request) -> Result<(), Error> {
+        let fate = self.next_fate();
+        self.table.modify(request, fate)
     }
 
     fn delete(&mut self, file: u32) -> Result<(), Error> {
-        let fault = self.next_fault();
-        self.table.delete(file, fault)
+        let fate = self.next_fate();
+        self.table.delete(file, fate)
     }
 
     fn wait(&mut self, _timeout: Option<u64>, events: &mut Events) -> Result<(), Error> {

@@ -5,13 +5,11 @@ mod bench;
 mod entry;
 mod events;
 mod line;
-mod line_calls;
 mod poller;
 mod table;
-mod table_calls;
 
 pub use bench::{BenchPoller, Step};
-pub use entry::{Entry, Event, Interest, Mode, Readiness};
+pub use entry::{Entry, Event, Interest, Mode, Readiness, Request};
 pub use events::Events;
 pub use line::LinePoller;
 pub use poller::Poller;

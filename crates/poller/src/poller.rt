@@ -1,12 +1,13 @@
 // A poller: entries by file, and what each call does to them.
 ghost use Rattle.std.specs.Prelude.{◌≡◌, ℕ, Bool, List, Option};
 ghost use Rattle.poller.specs.Meaning.{Answer, By, Waited, add_of, delete_of, modify_of};
-ghost use Rattle.poller.specs.Register.{Request, Sound};
+ghost use Rattle.poller.specs.declared.entry.Request.{Request};
+ghost use Rattle.poller.specs.Register.{Sound};
 ghost use Rattle.poller.specs.declared.entry.Entry.{Entry};
 ghost use Rattle.poller.specs.declared.entry.Event.{Event};
 ghost use Rattle.token.specs.Refusal.{outcome};
 
-use crate::entry::{Interest, Mode};
+use crate::entry::Request;
 use crate::events::Events;
 use token::Error;
 
@@ -14,7 +15,7 @@ pub trait Poller {
     // Whether it knows level mode.
     const LEVEL: bool;
 
-    ghost level: { Bool };
+    ghost LEVEL: { Bool };
 
     ghost entries: { Self → List Entry };
 
@@ -30,15 +31,11 @@ pub trait Poller {
 
     ghost waits: { Self → Option ℕ → Answer → List Event → Self → Type 0 };
 
-    // The constant once more, in a form that a contract can cite.
-    fn level_mode(&self) -> bool
-        ensures { result ≡ level };
+    fn add(&mut self, request: Request) -> Result<(), Error>
+        ensures { adds self.old request (outcome result) self.new };
 
-    fn add(&mut self, file: u32, key: u64, interest: Interest, mode: Mode) -> Result<(), Error>
-        ensures { adds self.old (record { file = file; key = key; interest = interest; mode = mode }) (outcome result) self.new };
-
-    fn modify(&mut self, file: u32, key: u64, interest: Interest, mode: Mode) -> Result<(), Error>
-        ensures { modifies self.old (record { file = file; key = key; interest = interest; mode = mode }) (outcome result) self.new };
+    fn modify(&mut self, request: Request) -> Result<(), Error>
+        ensures { modifies self.old request (outcome result) self.new };
 
     fn delete(&mut self, file: u32) -> Result<(), Error>
         ensures { deletes self.old file (outcome result) self.new };

@@ -1,5 +1,6 @@
 // The poller of the test bench, by its script.
-use poller::{BenchPoller, Event, Events, Interest, Mode, Poller, Step};
+use crate::request::request;
+use poller::{BenchPoller, Event, Events, Mode, Poller, Step};
 use std::test::Fail;
 use token::Error;
 
@@ -7,19 +8,19 @@ use token::Error;
 fn fills(rt: HostRuntime) -> Result<(), Fail> {
     let mut poller = BenchPoller::new(rt.alloc())?;
     for file in 0..256 {
-        assert_eq!(rt; poller.add(file, 1, Interest::READ, Mode::OneShot), Ok(()));
+        assert_eq!(rt; poller.add(request(file, 1, Mode::OneShot)), Ok(()));
     }
     assert_eq!(rt;
-        poller.add(256, 1, Interest::READ, Mode::OneShot),
+        poller.add(request(256, 1, Mode::OneShot)),
         Err(Error::PollerFull)
     );
     assert_eq!(rt;
-        poller.add(255, 1, Interest::READ, Mode::OneShot),
+        poller.add(request(255, 1, Mode::OneShot)),
         Err(Error::Exists)
     );
     assert_eq!(rt; poller.delete(7), Ok(()));
     assert_eq!(rt; poller.delete(7), Err(Error::NotFound));
-    assert_eq!(rt; poller.add(256, 1, Interest::READ, Mode::OneShot), Ok(()));
+    assert_eq!(rt; poller.add(request(256, 1, Mode::OneShot)), Ok(()));
     Ok(())
 }
 
@@ -28,8 +29,8 @@ fn fills(rt: HostRuntime) -> Result<(), Fail> {
 fn tells_once(rt: HostRuntime) -> Result<(), Fail> {
     let mut poller = BenchPoller::new(rt.alloc())?;
     let mut events = Events::new(rt.alloc())?;
-    poller.add(5, 50, Interest::READ, Mode::Edge)?;
-    poller.add(6, 60, Interest::READ, Mode::OneShot)?;
+    poller.add(request(5, 50, Mode::Edge))?;
+    poller.add(request(6, 60, Mode::OneShot))?;
     poller.make_ready(vec![in rt.alloc(); 6, 5, 6, 9, 5]?);
     poller.wait(None, &mut events)?;
     assert_eq!(rt; events.items.len(), 2);
@@ -42,7 +43,7 @@ fn tells_once(rt: HostRuntime) -> Result<(), Fail> {
     poller.make_ready(vec![in rt.alloc(); 6]?);
     poller.wait(None, &mut events)?;
     assert_eq!(rt; events.items.len(), 0);
-    poller.modify(6, 61, Interest::READ, Mode::OneShot)?;
+    poller.modify(request(6, 61, Mode::OneShot))?;
     poller.make_ready(vec![in rt.alloc(); 6]?);
     poller.wait(None, &mut events)?;
     assert_eq!(rt; events.items.len(), 1);
@@ -62,12 +63,12 @@ fn fails_by_plan(rt: HostRuntime) -> Result<(), Fail> {
         Step::Fail(4),
     ]?);
     assert_eq!(rt;
-        poller.add(3, 30, Interest::READ, Mode::OneShot),
+        poller.add(request(3, 30, Mode::OneShot)),
         Err(Error::PollerFailed(1))
     );
-    assert_eq!(rt; poller.add(3, 30, Interest::READ, Mode::OneShot), Ok(()));
+    assert_eq!(rt; poller.add(request(3, 30, Mode::OneShot)), Ok(()));
     assert_eq!(rt;
-        poller.modify(3, 31, Interest::READ, Mode::OneShot),
+        poller.modify(request(3, 31, Mode::OneShot)),
         Err(Error::PollerFailed(2))
     );
     assert_eq!(rt; poller.delete(3), Err(Error::PollerFailed(3)));

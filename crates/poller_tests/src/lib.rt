@@ -5,3 +5,5 @@
 mod bench;
 #[cfg(test)]
 mod lines;
+#[cfg(test)]
+mod request;

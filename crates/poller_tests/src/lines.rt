@@ -1,5 +1,6 @@
 // The line poller, by its lines.
-use poller::{Events, Interest, LinePoller, Mode, Poller};
+use crate::request::request;
+use poller::{Events, LinePoller, Mode, Poller};
 use std::test::Fail;
 use token::Error;
 
@@ -7,9 +8,9 @@ use token::Error;
 fn knows_64_files(rt: HostRuntime) -> Result<(), Fail> {
     let mut poller = LinePoller::new(rt.alloc())?;
     let mut events = Events::new(rt.alloc())?;
-    assert_eq!(rt; poller.add(63, 1, Interest::READ, Mode::Level), Ok(()));
+    assert_eq!(rt; poller.add(request(63, 1, Mode::Level)), Ok(()));
     assert_eq!(rt;
-        poller.add(64, 1, Interest::READ, Mode::Level),
+        poller.add(request(64, 1, Mode::Level)),
         Err(Error::PollerFailed(9))
     );
     poller.set_lines(1 << 63);
@@ -18,10 +19,10 @@ fn knows_64_files(rt: HostRuntime) -> Result<(), Fail> {
     poller.wait(None, &mut events)?;
     assert_eq!(rt; events.items.len(), 1);
     for file in 0..63 {
-        assert_eq!(rt; poller.add(file, 1, Interest::READ, Mode::Level), Ok(()));
+        assert_eq!(rt; poller.add(request(file, 1, Mode::Level)), Ok(()));
     }
     assert_eq!(rt;
-        poller.add(64, 1, Interest::READ, Mode::Level),
+        poller.add(request(64, 1, Mode::Level)),
         Err(Error::PollerFull)
     );
     Ok(())
@@ -32,7 +33,7 @@ fn knows_64_files(rt: HostRuntime) -> Result<(), Fail> {
 fn tells_edges(rt: HostRuntime) -> Result<(), Fail> {
     let mut poller = LinePoller::new(rt.alloc())?;
     let mut events = Events::new(rt.alloc())?;
-    poller.add(3, 30, Interest::READ, Mode::Edge)?;
+    poller.add(request(3, 30, Mode::Edge))?;
     poller.set_lines(8);
     poller.wait(None, &mut events)?;
     assert_eq!(rt; events.items.len(), 1);

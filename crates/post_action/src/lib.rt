@@ -4,6 +4,8 @@
 ghost use Rattle.std.specs.Prelude.{◌≡◌};
 ghost use Rattle.post_action.specs.Join.{join_of};
 
+use std::ops::BitOr;
+
 #[derive(Clone, Copy, PartialEq, Eq, Debug)]
 pub enum PostAction {
     Continue,
@@ -12,11 +14,13 @@ pub enum PostAction {
     Remove,
 }
 
-impl PostAction {
-    // The one action of two parts of a source: their common value, else Reregister.
-    pub fn join(self, other: PostAction) -> PostAction
-        ensures { result ≡ join_of self other }
-    {
+// The one action of two parts of a source: their common value, else Reregister.
+impl BitOr for PostAction {
+    type Output = PostAction;
+
+    ghost bitor_gives = { λ a b r. r ≡ join_of a b };
+
+    fn bitor(self, other: PostAction) -> PostAction {
         if self == other {
             self
         } else {

@@ -1,6 +1,7 @@
 -- The rule of the files: nothing done, one call after another, and one file changed.
 use Rattle.std.proofs.Common.{◌≡◌, ℕ, true, ◌⊎◌, List, [], ◌∷◌, Some, None, Option, sym, refl, ap, ◌∙◌, subst, inl, inr, arith}
 use Rattle.std.proofs.lemmas.Bool.{cases_eq}
+use Rattle.std.proofs.lemmas.Grind.{common_steps}
 use Rattle.poller.specs.declared.entry.Entry.{Entry}
 use Rattle.poller.specs.Meaning.{Apart}
 use Rattle.poller.specs.Register.{entry_of}
@@ -9,30 +10,16 @@ use Rattle.rules.specs.Meaning.{Held}
 use Rattle.rules.specs.Files.{Files, Keeps, Sound, Stood}
 use Rattle.rules.specs.OneFile.{own_files, under}
 
-pub some_none : {e : Entry} (o : Option Entry) → o ≡ Some e → o ≡ None → ⊥
-some_none o p q = let z : ◌≡◌ {A = ℕ} 0 1 = cc in omega arith
-
-pub some_eq : {X : Type 0} (x y : X) → ◌≡◌ {A = Option X} (Some x) (Some y) → x ≡ y
-some_eq x y p = cc
-
 among? : (f : ℕ) (o : List ℕ) → In f o ⊎ (In f o → ⊥)
 among? f [] = inr (λ m. m)
-among? f (x ∷ o) = elim (cases_eq f x) [
-  | inl e ↦ inl (inl e)
-  | inr ne ↦ elim (among? f o) [ inl m ↦ inl (inr m) | inr n ↦ inr (λ m. elim m [ inl e ↦ ne e | inr q ↦ n q ]) ]
-]
-
-none? : (o : Option Entry) → ((e : Entry) × (o ≡ Some e)) ⊎ (o ≡ None)
-none? None = inr refl
-none? (Some e) = inl (e, refl)
+among? f (x ∷ o) = grind (arith, common_steps, among? f o)
 
 pub keeps_same : (D : ℕ → Type 0) (h : List Held) (o : List ℕ) (es es' : List Entry) → es' ≡ es → Keeps D h o es h o es'
 keeps_same D h o es es' eq sound =
-    let Q : List Entry → Type 0 = λ x. Files D h o es h o x in
-    subst Q (sym eq) (record {
+    subst (Files D h o es h o) (sym eq) (record {
       others = λ f n e at. at;
       sound = sound;
-      only = λ f e at. elim (among? f o) [ inl m ↦ inr (inl m) | inr n ↦ inl (n, at) ];
+      only = λ f e at. grind (arith, common_steps, among? f o);
       keys = λ f e at. inl (e, at, refl);
       fresh = λ f m. inl m;
     })
@@ -43,18 +30,10 @@ pub keeps_then : (D E F : ℕ → Type 0) (h h' h'' : List Held) (o o' o'' : Lis
 keeps_then D E F h h' h'' o o' o'' es es' es'' df ef one two sound =
     let r : Files D h o es h' o' es' = one sound in
     let s : Files E h' o' es' h'' o'' es'' = two r.sound in
-    let away : (f : ℕ) (e : Entry) → (In f o → ⊥) → entry_of f es ≡ Some e → In f o' → ⊥ =
-    λ f e n at m. elim (r.fresh f m) [ inl q ↦ n q | inr q ↦ some_none (entry_of f es) at q ] in
     record {
-      others = λ f n e at. s.others f (away f e n at) e (r.others f n e at);
+      others = λ f n e at. grind (arith, common_steps, s.others f, r.others f n e, r.fresh f);
       sound = s.sound;
-      only = λ f e at. elim (s.only f e at) [
-        | inl p ↦ elim (r.only f e p.1) [
-          | inl q ↦ inl q
-          | inr q ↦ elim q [ inl m ↦ absurd (p.0 m) | inr st ↦ inr (inr st) ]
-        ]
-        | inr q ↦ inr q
-      ];
+      only = λ f e at. grind (arith, common_steps, s.only f e at, r.only f e);
       keys = λ f e at. elim (s.keys f e at) [
         | inl p ↦ elim (r.keys f p.0 p.1) [
           | inl q ↦ inl (q.0, q.1, q.2 ∙ p.2)
@@ -62,24 +41,14 @@ keeps_then D E F h h' h'' o o' o'' es es' es'' df ef one two sound =
         ]
         | inr q ↦ inr (ef e.key q)
       ];
-      fresh = λ f m. elim (s.fresh f m) [
-        | inl q ↦ r.fresh f q
-        | inr q ↦ elim (none? (entry_of f es)) [
-          | inl w ↦ elim (among? f o) [
-            | inl i ↦ inl i
-            | inr n ↦ absurd (some_none (entry_of f es') (r.others f n w.0 w.1) q)
-          ]
-          | inr n ↦ inr n
-        ]
-      ];
+      fresh = λ f m. grind (arith, common_steps, s.fresh f m, r.fresh f, among? f o, r.others f);
     }
 
 -- A SOURCE WITH ONE FILE
 
 lone : (f g : ℕ) (k : Option ℕ) → In g (own_files f k) → g ≡ f
 lone f g None m = elim m [ ]
-lone f g (Some k) (inl e) = e
-lone f g (Some k) (inr m) = elim m [ ]
+lone f g (Some k) m = grind (arith, common_steps)
 
 lone_held : (f : ℕ) (x : Held) (k : Option ℕ) → In x (under f k) → (n : ℕ) × (k ≡ Some n) × (x ≡ record { file = f; key = n })
 lone_held f x None m = elim m [ ]
@@ -91,10 +60,10 @@ lone_once f None = tt
 lone_once f (Some k) = (refl, tt)
 
 owned : (f n : ℕ) (k : Option ℕ) → k ≡ Some n → In f (own_files f k)
-owned f n k e = subst (λ (x : Option ℕ). In f (own_files f x)) (sym e) (inl refl)
+owned f n k e = rw e (inl refl)
 
 held_as : (f n : ℕ) (k : Option ℕ) → k ≡ Some n → In (record { file = f; key = n }) (under f k)
-held_as f n k e = subst (λ (x : Option ℕ). In (record { file = f; key = n }) (under f x)) (sym e) (inl refl)
+held_as f n k e = rw e (inl refl)
 
 key_of_lem : (f : ℕ) (k : Option ℕ) → In f (own_files f k) → (n : ℕ) × (k ≡ Some n)
 key_of_lem f None m = elim m [ ]
@@ -112,12 +81,12 @@ module _ (D : ℕ → Type 0) (f : ℕ) (k k' : Option ℕ) (es es' : List Entry
       → Keeps D (under f k) (own_files f k) es (under f k') (own_files f k') es'
   keeps_placed there facts sound =
       let w = facts sound in
-      let at_file : (g : ℕ) (e : Entry) → g ≡ f → entry_of g es' ≡ Some e → entry_of f es' ≡ Some e = λ g e q at. ap (λ (x : ℕ). entry_of x es') (sym q) ∙ at in
+      let at_file : (g : ℕ) (e : Entry) → g ≡ f → entry_of g es' ≡ Some e → entry_of f es' ≡ Some e = λ g e q at. rw (sym q) at in
       record {
         others = λ g n e at. elim (cases_eq g f) [
           | inl q ↦ elim w.mine [
-            | inl m ↦ absurd (n (subst (λ (x : ℕ). In x (own_files f k)) (sym q) m))
-            | inr z ↦ absurd (some_none (entry_of f es) (ap (λ (x : ℕ). entry_of x es) (sym q) ∙ at) z)
+            | inl m ↦ absurd (n (rw q m))
+            | inr z ↦ let a : entry_of f es ≡ Some e = rw q at at in cc
           ]
           | inr ne ↦ there g ne ∙ at
         ];
@@ -125,30 +94,25 @@ module _ (D : ℕ → Type 0) (f : ℕ) (k k' : Option ℕ) (es es' : List Entry
           stands = λ x m.
               let l = lone_held f x k' m in
               let v = w.under_key l.0 l.1 in
-              (v.0, ap (λ (y : Held). entry_of y.file es') l.2 ∙ v.1, v.2 ∙ sym (ap (λ (y : Held). y.key) l.2));
-          own = λ x m.
-              let l = lone_held f x k' m in
-              subst (λ (y : Held). In y.file (own_files f k')) (sym l.2) (owned f l.0 k' l.1);
+              rw l.2 v;
+          own = λ x m. let l = lone_held f x k' m in rw l.2 (owned f l.0 k' l.1);
           rest = λ g m.
               let q : g ≡ f = lone f g k' m in
-              let l = key_of_lem f k' (subst (λ (x : ℕ). In x (own_files f k')) q m) in
+              let l = key_of_lem f k' (rw q at m) in
               let v = w.under_key l.0 l.1 in
-              subst (λ (x : ℕ). (e : Entry) × (entry_of x es' ≡ Some e) × (In (record { file = x; key = e.key }) (under f k') ⊎ (e.stuck ≡ true))) (sym q)
-              (v.0, v.1, inl (held_as f v.0.key k' (l.1 ∙ ap (λ (n : ℕ). Some n) (sym v.2))));
+              rw q (v.0, v.1, inl (held_as f v.0.key k' (l.1 ∙ ap (λ (n : ℕ). Some n) (sym v.2))));
           once = lone_once f k';
         };
         only = λ g e at. elim (cases_eq g f) [
           | inl q ↦ elim (w.held_or_stuck e (at_file g e q at)) [
-            | inl u ↦ inr (inl (subst (λ (x : ℕ). In x (own_files f k')) (sym q) (owned f e.key k' u)))
+            | inl u ↦ inr (inl (rw q (owned f e.key k' u)))
             | inr st ↦ inr (inr st)
           ]
           | inr ne ↦ inl (λ m. ne (lone f g k m), sym (there g ne) ∙ at)
         ];
         keys = λ g e at. elim (cases_eq g f) [
-          | inl q ↦ subst (λ (x : ℕ). Stood es x e.key ⊎ D e.key) (sym q) (w.from e (at_file g e q at))
+          | inl q ↦ rw q (w.from e (at_file g e q at))
           | inr ne ↦ inl (e, sym (there g ne) ∙ at, refl)
         ];
-        fresh = λ g m.
-            let q : g ≡ f = lone f g k' m in
-            subst (λ (x : ℕ). In x (own_files f k) ⊎ (entry_of x es ≡ None)) (sym q) w.mine;
+        fresh = λ g m. rw (lone f g k' m) w.mine;
       }

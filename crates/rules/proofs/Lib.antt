@@ -1,6 +1,5 @@
 pub mod Files
 pub mod Timers
 pub mod OneFile
-pub mod Calls
 pub mod Drawing
 pub mod Steps

@@ -1,104 +1,80 @@
 -- A source with one file keeps the rules at each call of the polling system.
-use Rattle.std.proofs.Common.{◌≡◌, ℕ, Bool, true, false, cond, not, eqb, ltb, ◌⊎◌, List, [], ◌∷◌, length, is_some, Some, None, Option, sym, refl, ap, ◌∙◌, subst, inl, inr, arith}
-use Rattle.std.proofs.lemmas.Bool.{cond-false, true≢false}
+use Rattle.std.proofs.Common.{◌≡◌, ℕ, Bool, true, false, cond, ltb, ◌⊎◌, List, [], ◌∷◌, length, is_some, Some, None, Option, sym, refl, ap, ◌∙◌, inl, inr, arith}
+use Rattle.std.proofs.lemmas.Grind.{common_steps}
 use Rattle.std.specs.Option.{option_map}
 use Rattle.token.specs.Refusal.{done, refused, refusal}
 use Rattle.poller.specs.declared.entry.Entry.{Entry}
-use Rattle.poller.specs.Register.{Request, entry_of, fresh, holds, marked, removed, renewed}
+use Rattle.poller.specs.declared.entry.Request.{Request}
+use Rattle.poller.specs.Register.{entry_of, fresh, marked, removed, renewed}
 use Rattle.poller.specs.Meaning.{Answer, Fate, add_of, altered, delete_of, fails, grown, lessened, modify_of, works}
 use Rattle.sys.specs.Laws.{In, Untouched}
 use Rattle.sys.proofs.Entries.{changed_here, push_here}
 use Rattle.rules.specs.Files.{Keeps, Sound, Stood}
 use Rattle.rules.specs.Meaning.{Nothing}
 use Rattle.rules.specs.OneFile.{own_files, under}
-use Rattle.rules.proofs.Files.{Placed, keeps_placed, keeps_same, some_eq, some_none}
+use Rattle.rules.proofs.Files.{Placed, keeps_placed, keeps_same}
 
 -- THE FILE'S ENTRY AFTER EACH CALL OF THE POLLER
 
-not_held : (f : ℕ) (es : List Entry) → holds f es ≡ false → entry_of f es ≡ None
-not_held f es h = at (entry_of f es) h
-  where
-    at : (o : Option Entry) → is_some o ≡ false → o ≡ None
-    at None e = refl
-    at (Some x) e = absurd (true≢false e)
-
-is_held : (f : ℕ) (es : List Entry) → holds f es ≡ true → (e : Entry) × (entry_of f es ≡ Some e)
-is_held f es h = at (entry_of f es) refl h
-  where
-    at : (o : Option Entry) → entry_of f es ≡ o → is_some o ≡ true → (e : Entry) × (entry_of f es ≡ Some e)
-    at None q e = let z : ◌≡◌ {A = ℕ} 0 1 = cc in absurd (omega arith)
-    at (Some x) q e = (x, q)
-
 removed_here : (f : ℕ) (es : List Entry) → entry_of f (removed f es) ≡ None
 removed_here f [] = refl
-removed_here f (e ∷ es) = at (eqb e.file f) refl (removed_here f es)
-  where
-    at : (b : Bool) → eqb e.file f ≡ b → entry_of f (removed f es) ≡ None → entry_of f (cond (not b) (e ∷ removed f es) (removed f es)) ≡ None
-    at true q more = more
-    at false q more = cond-false _ _ _ q ∙ more
+removed_here f (e ∷ es) = grind (arith, common_steps, removed_here f es)
 
 abbrev Added : List Entry → Request → Answer → List Entry → Type 0
 Added es q (done u) es' = (entry_of q.file es ≡ None) × (entry_of q.file es' ≡ Some (fresh q))
 Added es q (refused n c) es' = es' ≡ es
 
 add_here : (m : ℕ) (es : List Entry) (q : Request) (fate : Fate) → Added es q (add_of m es q fate).0 (add_of m es q fate).1
-add_here m es q fate = at (holds q.file es) refl (ltb (length es) m) fate
+add_here m es q fate = at (entry_of q.file es) refl (ltb (length es) m) fate
   where
-    at : (b : Bool) → holds q.file es ≡ b → (c : Bool) (fate : Fate)
-        → Added es q (cond b (refusal 11, es) (cond c (grown es q fate) (refusal 13, es))).0 (cond b (refusal 11, es) (cond c (grown es q fate) (refusal 13, es))).1
-    at true h c fate = refl
-    at false h false fate = refl
-    at false h true (fails n) = refl
-    at false h true works = (not_held q.file es h, push_here es (fresh q) h)
+    at : (o : Option Entry) → entry_of q.file es ≡ o → (c : Bool) (fate : Fate)
+        → (λ (x : Answer × List Entry). Added es q x.0 x.1) (cond (is_some o) (refusal 11, es) (cond c (grown es q fate) (refusal 13, es)))
+    at (Some e) h c fate = refl
+    at None h false fate = refl
+    at None h true (fails n) = refl
+    at None h true works = (h, push_here es (fresh q) (ap is_some h))
 
 abbrev Modified : List Entry → Request → Answer → List Entry → Type 0
 Modified es q (done u) es' = (e : Entry) × (entry_of q.file es ≡ Some e) × (entry_of q.file es' ≡ Some (renewed q e))
 Modified es q (refused n c) es' = es' ≡ es
 
 modify_here : (es : List Entry) (q : Request) (fate : Fate) → Modified es q (modify_of es q fate).0 (modify_of es q fate).1
-modify_here es q fate = at (holds q.file es) refl fate
+modify_here es q fate = at (entry_of q.file es) refl fate
   where
-    at : (b : Bool) → holds q.file es ≡ b → (fate : Fate) → Modified es q (cond b (altered es q fate) (refusal 12, es)).0 (cond b (altered es q fate) (refusal 12, es)).1
-    at false h fate = refl
-    at true h (fails n) = refl
-    at true h works =
-        let w = is_held q.file es h in
-        (w.0, w.1, changed_here (renewed q) (λ e. refl) q.file es ∙ ap (option_map (renewed q)) w.1)
+    at : (o : Option Entry) → entry_of q.file es ≡ o → (fate : Fate) → (λ (x : Answer × List Entry). Modified es q x.0 x.1) (cond (is_some o) (altered es q fate) (refusal 12, es))
+    at None h fate = refl
+    at (Some e) h (fails n) = refl
+    at (Some e) h works = (e, h, changed_here (renewed q) (λ e. refl) q.file es ∙ ap (option_map (renewed q)) h)
 
 abbrev Deleted : List Entry → ℕ → Answer → List Entry → Type 0
 Deleted es f (done u) es' = entry_of f es' ≡ None
 Deleted es f (refused n c) es' = (entry_of f es ≡ None) ⊎ ((e : Entry) × (entry_of f es ≡ Some e) × (entry_of f es' ≡ Some (marked e)))
 
 delete_here : (es : List Entry) (f : ℕ) (fate : Fate) → Deleted es f (delete_of es f fate).0 (delete_of es f fate).1
-delete_here es f fate = at (holds f es) refl fate
+delete_here es f fate = at (entry_of f es) refl fate
   where
-    at : (b : Bool) → holds f es ≡ b → (fate : Fate) → Deleted es f (cond b (lessened es f fate) (refusal 12, es)).0 (cond b (lessened es f fate) (refusal 12, es)).1
-    at false h fate = inl (not_held f es h)
-    at true h works = removed_here f es
-    at true h (fails n) =
-        let w = is_held f es h in
-        inr (w.0, w.1, changed_here marked (λ e. refl) f es ∙ ap (option_map marked) w.1)
+    at : (o : Option Entry) → entry_of f es ≡ o → (fate : Fate) → (λ (x : Answer × List Entry). Deleted es f x.0 x.1) (cond (is_some o) (lessened es f fate) (refusal 12, es))
+    at None h fate = inl h
+    at (Some e) h works = removed_here f es
+    at (Some e) h (fails n) = inr (e, h, changed_here marked (λ e. refl) f es ∙ ap (option_map marked) h)
 
 -- THE RULE OF THE FILES
-
-none_some : {X : Type 0} (x : X) → ◌≡◌ {A = Option X} None (Some x) → ⊥
-none_some x p = let z : ◌≡◌ {A = ℕ} 0 1 = cc in omega arith
 
 -- the held file stands under its key
 held_key : (f n : ℕ) (es : List Entry) → Sound (under f (Some n)) (own_files f (Some n)) es → Stood es f n
 held_key f n es s = s.stands (record { file = f; key = n }) (inl refl)
 
 same_key : (f n : ℕ) (es : List Entry) (e : Entry) → Stood es f n → entry_of f es ≡ Some e → e.key ≡ n
-same_key f n es e s at = ap (λ (x : Entry). x.key) (some_eq e s.0 (sym at ∙ s.1)) ∙ s.2
+same_key f n es e s at = grind (arith, common_steps)
 
 -- the file is entered anew under the key n
 placed_new : (D : ℕ → Type 0) (f n : ℕ) (k k' : Option ℕ) (es : List Entry) (x : Entry) (now : Option Entry) → D n
     → In f (own_files f k) ⊎ (entry_of f es ≡ None) → k' ≡ Some n → now ≡ Some x → x.key ≡ n → Placed D f k k' es now
 placed_new D f n k k' es x now d mine kept here key = record {
   mine = mine;
-  under_key = λ j e. (x, here, key ∙ some_eq n j (sym kept ∙ e));
-  held_or_stuck = λ e at. inl (kept ∙ ap (λ (j : ℕ). Some j) (sym key ∙ ap (λ (y : Entry). y.key) (some_eq x e (sym here ∙ at))));
-  from = λ e at. inr (subst D (sym key ∙ ap (λ (y : Entry). y.key) (some_eq x e (sym here ∙ at))) d);
+  under_key = λ j e. (x, here, cc);
+  held_or_stuck = λ e at. grind (arith, common_steps);
+  from = λ e at. grind (arith, common_steps);
 }
 
 module _ (key : Answer → Option ℕ) where
@@ -112,7 +88,7 @@ module _ (key : Answer → Option ℕ) where
       at (done u) es' a there =
           keeps_placed D q.file None (key (done u)) es es' there (λ sound. placed_new D q.file q.key None _ es (fresh q) _ d (inr a.0) kept a.1 refl)
       at (refused n c) es' a there =
-          subst (λ (k : Option ℕ). Keeps D [] [] es (under q.file k) (own_files q.file k) es') (sym (lost n c)) (keeps_same D [] [] es es' a)
+          rw (lost n c) (keeps_same D [] [] es es' a)
 
   -- modify, where the file is held
   pub modified_keeps : (D : ℕ → Type 0) (n : ℕ) (es : List Entry) (q : Request) (fate : Fate) → D q.key
@@ -125,8 +101,7 @@ module _ (key : Answer → Option ℕ) where
       at (done u) es' a there =
           keeps_placed D q.file (Some n) (key (done u)) es es' there (λ sound. placed_new D q.file q.key (Some n) _ es (renewed q a.0) _ d (inl (inl refl)) kept a.2 refl)
       at (refused j c) es' a there =
-          subst (λ (k : Option ℕ). Keeps D (under q.file (Some n)) (own_files q.file (Some n)) es (under q.file k) (own_files q.file k) es') (sym (lost j c))
-          (keeps_same D (under q.file (Some n)) (own_files q.file (Some n)) es es' a)
+          rw (lost j c) (keeps_same D (under q.file (Some n)) (own_files q.file (Some n)) es es' a)
 
   -- delete, where the file is held; a key that is left is the old one
   pub deleted_keeps : (f n : ℕ) (es : List Entry) (fate : Fate)
@@ -141,17 +116,17 @@ module _ (key : Answer → Option ℕ) where
           record {
             mine = inl (inl refl);
             under_key = λ i p. (marked e, here, keyed ∙ sym (left i p));
-            held_or_stuck = λ x p. inr (sym (ap (λ (y : Entry). y.stuck) (some_eq (marked e) x (sym here ∙ p))));
-            from = λ x p. inl (e, at, ap (λ (y : Entry). y.key) (some_eq (marked e) x (sym here ∙ p)));
+            held_or_stuck = λ x p. grind (arith, common_steps);
+            from = λ x p. inl (e, at, cc);
           }
 
       at : (r : Answer) (es' : List Entry) → Deleted es f r es' → Untouched f es es' → Keeps Nothing (under f (Some n)) (own_files f (Some n)) es (under f (key r)) (own_files f (key r)) es'
       at (done u) es' a there = keeps_placed Nothing f (Some n) (key (done u)) es es' there (λ sound. record {
         mine = inl (inl refl);
-        under_key = λ i p. absurd (none_some i (sym gone ∙ p));
-        held_or_stuck = λ e p. absurd (none_some e (sym a ∙ p));
-        from = λ e p. absurd (none_some e (sym a ∙ p));
+        under_key = λ i p. grind (arith, common_steps);
+        held_or_stuck = λ e p. cc;
+        from = λ e p. cc;
       })
-      at (refused j c) es' (inl z) there = λ sound. let s = held_key f n es sound in absurd (some_none (entry_of f es) s.1 z)
+      at (refused j c) es' (inl z) there = λ sound. let s = held_key f n es sound in cc
       at (refused j c) es' (inr w) there =
           keeps_placed Nothing f (Some n) (key (refused j c)) es es' there (λ sound. marks (refused j c) es' (left j c) sound w.0 w.1 w.2)

@@ -8,7 +8,7 @@ use Rattle.levels.specs.declared.table.Line.{Line}
 use Rattle.sys.specs.Laws.{Touches}
 use Rattle.sys.specs.Polling.{mode_below_of, request}
 use Rattle.sys.specs.World.{Exchange, World, added, deleted, let_go_of, modified, read, register_of, reregister_of, sent, unregister_of}
-use Rattle.sys.proofs.Plain.{let_go_touches, register_touches, reregister_touches, unregister_touches}
+use Rattle.sys.proofs.Locality.{let_go_touches, register_touches, reregister_touches, unregister_touches}
 use Rattle.rules.specs.Kinds.{Enters, Reaches}
 use Rattle.rules.specs.Meaning.{Meaning, Nothing}
 use Rattle.rules.specs.OneFile.{one_file_of}

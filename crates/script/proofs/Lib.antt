@@ -1,5 +1,4 @@
 mod Reading
-mod Shapes
 mod Lines
 mod Files
 mod Unique

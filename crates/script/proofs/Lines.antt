@@ -1,5 +1,5 @@
 -- Lemmas on lines: what a line of each form has after its letter.
-use Rattle.std.proofs.Common.{◌≡◌, ℕ, ◌^◌, ◌<◌, true, false, eqb, List, [], ◌∷◌, ◌++◌, codes, decimal, sym, refl, ◌∙◌, subst, arith, eq-eqb}
+use Rattle.std.proofs.Common.{◌≡◌, ℕ, ◌^◌, ◌<◌, List, [], ◌∷◌, ◌++◌, codes, decimal, sym, refl, subst, arith}
 use Rattle.post_action.specs.declared.PostAction.{PostAction}
 use Rattle.script.specs.Number.{Digit, Number, NoNumber}
 use Rattle.script.specs.Line.{Plain, timer, generic, wait, letter_of, spaced, Writes, NoForm, Lists, NoList}
@@ -21,12 +21,9 @@ after_number text m r p n c s f d e = number_unique text m n r (c ∷ s) p (reco
 pub after_file : (text : List ℕ) (m : ℕ) (r : List ℕ) → Number 32 text m r → (n c : ℕ) (s : List ℕ) → n < 2 ^ 32 → (Digit c → ⊥) → decimal n ++ (c ∷ s) ≡ text → (m ≡ n) × (r ≡ c ∷ s)
 after_file text m r p n c s f d e = after_number text m r (wider text m r p) n c s (omega arith) d e
 
--- lines of other letters differ
-pub other : (l m : ℕ) (s t line : List ℕ) → eqb l m ≡ false → 40 ∷ (l ∷ s) ≡ line → 40 ∷ (m ∷ t) ≡ line → ⊥
-other l m s t line d e f =
-    let z : l ≡ m = cc in
-    let w : true ≡ false = sym (eq-eqb l m z) ∙ d in
-    let n : ◌≡◌ {A = ℕ} 0 1 = cc in omega arith
+-- equal lines have one letter
+same_letter : (l m : ℕ) (s t : List ℕ) → ◌≡◌ {A = List ℕ} (40 ∷ (l ∷ s)) (40 ∷ (m ∷ t)) → l ≡ m
+same_letter l m s t e = cc
 
 -- (T d p)
 
@@ -42,8 +39,8 @@ pub timer_line : (text : List ℕ) (g : Plain) → Writes g (codes "(T " ++ text
 timer_line text (timer d p) w =
     let e = w.is in
     record { deadline = d; period = p; is = refl; deadline_fits = w.fits.0; period_fits = w.fits.1; reads = cc }
-timer_line text (generic f a) w = absurd (other 71 84 _ _ _ refl w.is refl)
-timer_line text (wait c fs) w = absurd (other 87 84 _ _ _ refl w.is refl)
+timer_line text (generic f a) w = absurd (omega (arith, same_letter 71 84 _ _ w.is))
+timer_line text (wait c fs) w = absurd (omega (arith, same_letter 87 84 _ _ w.is))
 
 pub timer_no_deadline : (text : List ℕ) → NoNumber 64 text → NoForm (codes "(T " ++ text)
 timer_no_deadline text h g w =
@@ -87,11 +84,11 @@ pub record GenericLine (text : List ℕ) (g : Plain) : Type 0 where
   pub reads : decimal file ++ (32 ∷ (letter_of action ∷ (41 ∷ []))) ≡ text
 
 pub generic_line : (text : List ℕ) (g : Plain) → Writes g (codes "(G " ++ text) → GenericLine text g
-generic_line text (timer d p) w = absurd (other 84 71 _ _ _ refl w.is refl)
+generic_line text (timer d p) w = absurd (omega (arith, same_letter 84 71 _ _ w.is))
 generic_line text (generic f a) w =
     let e = w.is in
     record { file = f; action = a; is = refl; file_fits = w.fits; reads = cc }
-generic_line text (wait c fs) w = absurd (other 87 71 _ _ _ refl w.is refl)
+generic_line text (wait c fs) w = absurd (omega (arith, same_letter 87 71 _ _ w.is))
 
 pub generic_no_file : (text : List ℕ) → NoNumber 32 text → NoForm (codes "(G " ++ text)
 generic_no_file text h g w =
@@ -127,8 +124,8 @@ pub record WaitLine (text : List ℕ) (g : Plain) : Type 0 where
   pub reads : decimal clock ++ (32 ∷ (40 ∷ end)) ≡ text
 
 pub wait_line : (text : List ℕ) (g : Plain) → Writes g (codes "(W " ++ text) → WaitLine text g
-wait_line text (timer d p) w = absurd (other 84 87 _ _ _ refl w.is refl)
-wait_line text (generic f a) w = absurd (other 71 87 _ _ _ refl w.is refl)
+wait_line text (timer d p) w = absurd (omega (arith, same_letter 84 87 _ _ w.is))
+wait_line text (generic f a) w = absurd (omega (arith, same_letter 71 87 _ _ w.is))
 wait_line text (wait c fs) w =
     let e = w.is in
     record {

@@ -1,5 +1,5 @@
 -- A number as text, and the text that begins with one.
-use Rattle.std.specs.Prelude.{◌≡◌, ℕ, ◌+◌, ◌-◌, ◌*◌, ◌^◌, ◌<◌, ◌≤◌, List, [], ◌∷◌, ◌++◌, length, decimal, slice_index}
+use Rattle.std.specs.Prelude.{◌≡◌, ℕ, ◌^◌, ◌<◌, ◌≤◌, List, [], ◌∷◌, ◌++◌, length, decimal, slice_index}
 
 abbrev pub Digit : ℕ → Type 0
 Digit c = (48 ≤ c) × (c ≤ 57)
@@ -13,13 +13,11 @@ abbrev pub Stops : List ℕ → Type 0
 Stops [] = Unit {0}
 Stops (c ∷ cs) = Digit c → ⊥
 
--- the number that digits write, after those of n
-abbrev pub value_after : ℕ → List ℕ → ℕ
-value_after n [] = n
-value_after n (c ∷ cs) = value_after (n * 10 + (c - 48)) cs
-
-abbrev pub value : List ℕ → ℕ
-value ds = value_after 0 ds
+-- the text is digits, and then the rest, which does not go on with one
+pub record Split (text ds rest : List ℕ) : Type 0 where
+  pub whole : text ≡ ds ++ rest
+  pub digits : Digits ds
+  pub stops : Stops rest
 
 -- the text is n and then the rest, which does not go on with a digit; and n has at most k bits.
 -- `decimal n` is what `{n}` writes of n: its digits, with no zero in front but for the number 0

@@ -1,10 +1,9 @@
 // The lines of a test script: one form to a line, one spelling for each form.
 #![tactic(auto)]
 
-ghost use Rattle.std.specs.Prelude.{◌≡◌, ℕ, ◌^◌, ◌<◌, ◌≤◌, ◌++◌, length, IfOk, codes, MatchOption, ◌≢◌, slice_index};
+ghost use Rattle.std.specs.Prelude.{◌≡◌, ◌++◌, IfOk, codes, MatchOption, ◌≢◌};
 ghost use Rattle.script.specs.Line.{Lists, NoList, Reading, letter_of};
-ghost use Rattle.script.specs.Number.{Digit, Digits, NoNumber, Number, value};
-ghost use Rattle.std.specs.Option.{SomeIff};
+ghost use Rattle.script.specs.Number.{NoNumber, Number, Split};
 
 use post_action::PostAction;
 use std::alloc::{AllocError, Global};
@@ -20,17 +19,17 @@ pub enum Form {
     Wait { clock: u64, files: Vec<u32> },
 }
 
-// The form that the line is, or None where it is of no form.
+// The form that the line is, or None where it is of no form. No `FromStr`: the files need the heap.
 pub fn read_line(heap: Global, line: &[u8]) -> Result<Option<Form>, AllocError>
     ensures { IfOk result (λ o. Reading line.now o) }
 {
     let [b'(', letter, b' ', rest @ ..] = line else {
         return Ok(None);
     };
-    match char::from(*letter) {
-        'T' => Ok(read_timer(rest)),
-        'G' => Ok(read_generic(rest)),
-        'W' => read_wait(heap, rest),
+    match letter {
+        b'T' => Ok(read_timer(rest)),
+        b'G' => Ok(read_generic(rest)),
+        b'W' => read_wait(heap, rest),
         _ => Ok(None),
     }
 }
@@ -61,15 +60,15 @@ fn read_generic(text: &[u8]) -> Option<Form>
     Some(Form::Generic { file, action })
 }
 
-// The post action that the letter stands for.
+// The post action that the letter stands for. No `TryFrom`: the trait and the type are both of other crates.
 fn read_action(letter: u8) -> Option<PostAction>
     ensures { MatchOption result ((a : PostAction) → letter_of a ≢ letter) (λ a. letter_of a ≡ letter) }
 {
-    match char::from(letter) {
-        'C' => Some(PostAction::Continue),
-        'R' => Some(PostAction::Reregister),
-        'D' => Some(PostAction::Disable),
-        'X' => Some(PostAction::Remove),
+    match letter {
+        b'C' => Some(PostAction::Continue),
+        b'R' => Some(PostAction::Reregister),
+        b'D' => Some(PostAction::Disable),
+        b'X' => Some(PostAction::Remove),
         _ => None,
     }
 }
@@ -84,10 +83,7 @@ fn read_wait(heap: Global, text: &[u8]) -> Result<Option<Form>, AllocError>
     let [b' ', b'(', rest @ ..] = rest else {
         return Ok(None);
     };
-    match read_files(heap, rest)? {
-        Some(files) => Ok(Some(Form::Wait { clock, files })),
-        None => Ok(None),
-    }
+    Ok(read_files(heap, rest)?.map(|files| Form::Wait { clock, files }))
 }
 
 // The files of a text `file file ..))`, or None where it is no such text.
@@ -99,6 +95,7 @@ fn read_files(heap: Global, text: &[u8]) -> Result<Option<Vec<u32>>, AllocError>
         return Ok(Some(files));
     }
     let mut rest = text;
+    // Where a file ends says where the next one begins, so no iterator has them beforehand.
     while let Some((file, after)) = read_file(rest) {
         files.push(file)?;
         match after {
@@ -115,10 +112,8 @@ fn read_file(text: &[u8]) -> Option<(u32, &[u8])>
     ensures { MatchOption result (NoNumber 32 text.now) (λ p. Number 32 text.now p.0 p.1.now) }
 {
     let (number, rest) = read_number(text)?;
-    match u32::try_from(number) {
-        Ok(file) => Some((file, rest)),
-        Err(_) => None,
-    }
+    let file = u32::try_from(number).ok()?;
+    Some((file, rest))
 }
 
 // The number at the front of the text, and the text after it, which goes on with no digit.
@@ -126,39 +121,23 @@ fn read_file(text: &[u8]) -> Option<(u32, &[u8])>
 pub fn read_number(text: &[u8]) -> Option<(u64, &[u8])>
     ensures { MatchOption result (NoNumber 64 text.now) (λ p. Number 64 text.now p.0 p.1.now) }
 {
-    let (digits, rest) = text.split_at(count_digits(text));
-    match digits {
-        [] | [b'0', _, ..] => None,
-        _ => Some((number_of(digits)?, rest)),
+    let (digits, rest) = split_digits(text);
+    if let [b'0', _, ..] = digits {
+        return None;
     }
+    let number = str::from_utf8(digits).ok()?.parse().ok()?;
+    Some((number, rest))
 }
 
-// How many digits the text begins with: its first r bytes are digits, and no digit follows.
-fn count_digits(text: &[u8]) -> usize
-    ensures within { result ≤ length text.now }
-    ensures before { (k : ℕ) → k < result → Digit (slice_index text.now k) }
-    ensures stops { result < length text.now → Digit (slice_index text.now result) → ⊥ }
+// The digits that the text begins with, and the text after them.
+fn split_digits(text: &[u8]) -> (&[u8], &[u8])
+    ensures { Split text.now result.0.now result.1.now }
 {
-    for (i, byte) in text.iter().enumerate() {
-        if !byte.is_ascii_digit() {
-            return i;
-        }
-    }
-    text.len()
-}
-
-// The number that the digits write, where it fits 64 bits.
-fn number_of(digits: &[u8]) -> Option<u64>
-    requires { Digits digits.now }
-    ensures { SomeIff result (value digits.now < 2 ^ 64) (value digits.now) }
-{
-    let mut number: u64 = 0;
-    for digit in digits {
-        number = number
-            .checked_mul(10)?
-            .checked_add(u64::from(*digit - b'0'))?;
-    }
-    Some(number)
+    let count = text
+        .iter()
+        .position(|byte| !byte.is_ascii_digit())
+        .unwrap_or(text.len());
+    text.split_at(count)
 }
 
 #[cfg(test)]

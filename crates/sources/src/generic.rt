@@ -1,49 +1,41 @@
 // A source over one file.
 use crate::source::EventSource;
+use one_file::OneFile;
 use poller::{Interest, Mode, Poller, Readiness};
 use post_action::PostAction;
-use sys::{Clock, Poll, PollEvent};
+use sys::{Clock, Poll};
 use token::{Error, Token, TokenFactory};
 
 // What is done when the file is ready.
+// No closure: `new` would have to require that it may be called at any event, and a handler is asked nothing.
 pub trait GenericHandler {
     fn handle(&mut self, readiness: Readiness) -> Result<PostAction, Error>;
 }
 
 #[derive(Drop)]
 pub struct Generic<H> {
-    file: u32,
-    interest: Interest,
-    mode: Mode,
-    // the token under which the file stands in the poller
-    token: Option<Token>,
+    // its ticket is the token under which it stands in the poller
+    file: OneFile<Token>,
     handler: H,
 }
 
 impl<H: GenericHandler> Generic<H> {
     pub fn new(file: u32, interest: Interest, mode: Mode, handler: H) -> Generic<H> {
         Generic {
-            file,
-            interest,
-            mode,
-            token: None,
+            file: OneFile::new(file, interest, mode),
             handler,
         }
     }
 }
 
 impl<H: GenericHandler + Drop> EventSource for Generic<H> {
-    // A file that it still holds is given up first.
+    // The four calls for its file are those of OneFile: there is no delegation, so each is named.
     fn register<P: Poller, C: Clock>(
         &mut self,
         poll: &mut Poll<P, C>,
         factory: &mut TokenFactory,
     ) -> Result<(), Error> {
-        self.let_go(poll);
-        let token = factory.token()?;
-        poll.register(self.file, self.interest, self.mode, token)?;
-        self.token = Some(token);
-        Ok(())
+        self.file.register(poll, factory)
     }
 
     fn reregister<P: Poller, C: Clock>(
@@ -51,28 +43,15 @@ impl<H: GenericHandler + Drop> EventSource for Generic<H> {
         poll: &mut Poll<P, C>,
         factory: &mut TokenFactory,
     ) -> Result<(), Error> {
-        if self.token.is_none() {
-            return Err(Error::NotFound);
-        }
-        let token = factory.token()?;
-        poll.reregister(self.file, self.interest, self.mode, token)?;
-        self.token = Some(token);
-        Ok(())
+        self.file.reregister(poll, factory)
     }
 
     fn unregister<P: Poller, C: Clock>(&mut self, poll: &mut Poll<P, C>) -> Result<(), Error> {
-        if self.token.is_none() {
-            return Err(Error::NotFound);
-        }
-        poll.unregister(self.file)?;
-        self.token = None;
-        Ok(())
+        self.file.unregister(poll)
     }
 
     fn let_go<P: Poller, C: Clock>(&mut self, poll: &mut Poll<P, C>) {
-        if self.token.take().is_some() {
-            poll.let_go(self.file);
-        }
+        self.file.let_go(poll);
     }
 
     fn end(self) {}
@@ -84,19 +63,9 @@ impl<H: GenericHandler + Drop> EventSource for Generic<H> {
         readiness: Readiness,
         token: Token,
     ) -> Result<PostAction, Error> {
-        if self.token != Some(token) {
+        if self.file.tickets() != Some(token) {
             return Ok(PostAction::Continue);
         }
         self.handler.handle(readiness)
     }
-
-    fn needs_hooks(&self) -> bool {
-        false
-    }
-
-    fn before_sleep(&mut self) -> Result<Option<(Readiness, Token)>, Error> {
-        Ok(None)
-    }
-
-    fn before_handle_events(&mut self, _registration: Token, _events: &[PollEvent]) {}
 }

@@ -1,4 +1,5 @@
-// What a source kind is. Its calls work over any poller and any clock.
+// What a source kind is to the loop. Its calls work over any poller and any clock.
+// The trait of `kinds` asks more of a kind (a copy, errands, its rules), so it cannot stand in for this one.
 use poller::{Poller, Readiness};
 use post_action::PostAction;
 use sys::{Clock, Poll, PollEvent};
@@ -33,11 +34,15 @@ pub trait EventSource {
     ) -> Result<PostAction, Error>;
 
     // Whether the value wants the two hooks below.
-    fn needs_hooks(&self) -> bool;
+    fn needs_hooks(&self) -> bool {
+        false
+    }
 
     // Asked before a wait: a synthetic event of its own, or nothing.
-    fn before_sleep(&mut self) -> Result<Option<(Readiness, Token)>, Error>;
+    fn before_sleep(&mut self) -> Result<Option<(Readiness, Token)>, Error> {
+        Ok(None)
+    }
 
     // Told after a wait: `events` has the poller's and the timers' events, also other sources'.
-    fn before_handle_events(&mut self, registration: Token, events: &[PollEvent]);
+    fn before_handle_events(&mut self, _registration: Token, _events: &[PollEvent]) {}
 }

@@ -1,43 +1,26 @@
 // A source that rings at a deadline.
 use crate::source::EventSource;
+use alarm::{Alarm, TimeoutAction};
 use poller::{Poller, Readiness};
 use post_action::PostAction;
-use sys::{Clock, Poll, PollEvent};
+use sys::{Clock, Poll};
 use token::{Error, Token, TokenFactory};
 
-// What becomes of a timer that has rung.
-#[derive(Clone, Copy)]
-pub enum TimeoutAction {
-    Drop,
-    ToInstant(u64),
-    ToDuration(u64),
-}
-
-// What is done when the timer rings.
+// What is done when the timer rings. No closure, for the reason that `GenericHandler` is none.
 pub trait TimerHandler {
     fn ring(&mut self, deadline: u64) -> TimeoutAction;
 }
 
-// How a timer stands in the wheel.
-#[derive(Clone, Copy)]
-struct Registration {
-    token: Token,
-    counter: u32,
-}
-
 #[derive(Drop)]
 pub struct Timer<H> {
-    registration: Option<Registration>,
-    // none once it lies past the last time that there is
-    deadline: Option<u64>,
+    alarm: Alarm,
     handler: H,
 }
 
 impl<H: TimerHandler> Timer<H> {
     pub fn from_deadline(deadline: u64, handler: H) -> Timer<H> {
         Timer {
-            registration: None,
-            deadline: Some(deadline),
+            alarm: Alarm::from_deadline(deadline),
             handler,
         }
     }
@@ -49,13 +32,10 @@ impl<H: TimerHandler + Drop> EventSource for Timer<H> {
         poll: &mut Poll<P, C>,
         factory: &mut TokenFactory,
     ) -> Result<(), Error> {
-        let Some(deadline) = self.deadline else {
-            return Ok(());
-        };
-        let token = factory.token()?;
-        let counter = poll.insert_timer(deadline, token)?;
-        self.registration = Some(Registration { token, counter });
-        Ok(())
+        // refused, it leaves what stood before
+        let before = self.alarm;
+        let answer = self.alarm.register(poll, factory);
+        answer.inspect_err(|_| self.alarm = before)
     }
 
     fn reregister<P: Poller, C: Clock>(
@@ -63,19 +43,16 @@ impl<H: TimerHandler + Drop> EventSource for Timer<H> {
         poll: &mut Poll<P, C>,
         factory: &mut TokenFactory,
     ) -> Result<(), Error> {
-        self.unregister(poll)?;
-        self.register(poll, factory)
+        self.alarm.reregister(poll, factory)
     }
 
     fn unregister<P: Poller, C: Clock>(&mut self, poll: &mut Poll<P, C>) -> Result<(), Error> {
-        self.let_go(poll);
+        self.alarm.cancel(poll);
         Ok(())
     }
 
     fn let_go<P: Poller, C: Clock>(&mut self, poll: &mut Poll<P, C>) {
-        if let Some(registration) = self.registration.take() {
-            poll.cancel_timer(registration.counter);
-        }
+        self.alarm.cancel(poll);
     }
 
     fn end(self) {}
@@ -87,33 +64,10 @@ impl<H: TimerHandler + Drop> EventSource for Timer<H> {
         _readiness: Readiness,
         token: Token,
     ) -> Result<PostAction, Error> {
-        let (Some(registration), Some(deadline)) = (self.registration, self.deadline) else {
+        let Some((registration, deadline)) = self.alarm.due(token) else {
             return Ok(PostAction::Continue);
         };
-        if registration.token != token {
-            return Ok(PostAction::Continue);
-        }
-        let next = match self.handler.ring(deadline) {
-            TimeoutAction::Drop => return Ok(PostAction::Remove),
-            TimeoutAction::ToInstant(instant) => Some(instant),
-            TimeoutAction::ToDuration(duration) => poll.now().checked_add(duration),
-        };
-        let Some(next) = next else {
-            self.deadline = None;
-            return Ok(PostAction::Remove);
-        };
-        poll.reuse_timer(registration.counter, next, registration.token)?;
-        self.deadline = Some(next);
-        Ok(PostAction::Continue)
+        let action = self.handler.ring(deadline);
+        self.alarm.follow(poll, registration, action)
     }
-
-    fn needs_hooks(&self) -> bool {
-        false
-    }
-
-    fn before_sleep(&mut self) -> Result<Option<(Readiness, Token)>, Error> {
-        Ok(None)
-    }
-
-    fn before_handle_events(&mut self, _registration: Token, _events: &[PollEvent]) {}
 }

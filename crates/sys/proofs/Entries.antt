@@ -1,5 +1,5 @@
 -- What a change of the entries or of the lines leaves.
-use Rattle.std.proofs.Common.{◌≡◌, ℕ, Bool, true, false, cond, not, eqb, ◌⊎◌, List, [], ◌∷◌, ◌++◌, map, is_some, Some, None, filter, Option, sym, refl, ap, ◌∙◌, inl, inr, arith}
+use Rattle.std.proofs.Common.{◌≡◌, ℕ, Bool, true, false, cond, not, eqb, ◌⊎◌, List, [], ◌∷◌, ◌++◌, map, is_some, Some, None, filter, Option, sym, refl, ap, ◌∙◌, inl, inr}
 use Rattle.std.specs.Option.{option_map}
 use Rattle.std.proofs.lemmas.Bool.{true≢false, false≢true, cond-true, cond-false, eq-eqb, ne_eqb, eqb-true}
 use Rattle.poller.specs.declared.entry.Entry.{Entry}
@@ -88,7 +88,7 @@ alike_at g es es' e' same at =
   where
     found : (o : Option Entry) → entry_of g es ≡ o → Some (unarmed e') ≡ option_map unarmed o → (e : Entry) × (entry_of g es ≡ Some e) × (unarmed e' ≡ unarmed e)
     found (Some e) is q = (e, is, cc)
-    found None is q = let z : ◌≡◌ {A = ℕ} 0 1 = cc in absurd (omega arith)
+    found None is q = absurd cc
 
 told_one : (e : Entry) (b : Bool) (m : Mode) → unarmed (cond b (once_told e m) e) ≡ unarmed e
 told_one e true OneShot = refl
@@ -135,14 +135,13 @@ pub not_file : (f : ℕ) (o : Option ℕ) (l : Line) → stays f o l ≡ true �
 not_file f None l e q = false≢true (sym (ap not (eq-eqb l.file f q)) ∙ e)
 not_file f (Some k) l e q = false≢true (sym (ap (λ b. not (cond b true (eqb l.key k))) (eq-eqb l.file f q)) ∙ e)
 
-pub in_last : (l x : Line) (ls : List Line) → In l (ls ++ x ∷ []) → In l ls ⊎ (l ≡ x)
-in_last l x [] (inl e) = inr e
-in_last l x [] (inr m) = elim m [ ]
-in_last l x (y ∷ ls) (inl e) = inl (inl e)
-in_last l x (y ∷ ls) (inr m) = elim (in_last l x ls m) [ inl q ↦ inl (inr q) | inr e ↦ inr e ]
+pub in_append : {X : Type 0} (x : X) (xs ys : List X) → In x (xs ++ ys) → In x xs ⊎ In x ys
+in_append x [] ys h = inr h
+in_append x (y ∷ xs) ys (inl e) = inl (inl e)
+in_append x (y ∷ xs) ys (inr h) = elim (in_append x xs ys h) [ inl a ↦ inl (inr a) | inr b ↦ inr b ]
 
 pub found_in : (k : ℕ) (ls : List Line) (l : Line) → line_of k ls ≡ Some l → In l ls
-found_in k [] l e = let z : ◌≡◌ {A = ℕ} 0 1 = cc in absurd (omega arith)
+found_in k [] l e = absurd cc
 found_in k (x ∷ xs) l e = at (eqb x.key k) e (found_in k xs l)
   where
     at : (b : Bool) → cond b (Some x) (line_of k xs) ≡ Some l → (line_of k xs ≡ Some l → In l xs) → In l (x ∷ xs)

@@ -1,3 +1,4 @@
+pub mod Lawful
 pub mod Waits
 pub mod Entries
 pub mod Locality

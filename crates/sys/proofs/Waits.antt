@@ -1,12 +1,10 @@
 -- The stages of a wait, step by step.
-use Rattle.std.proofs.Common.{◌≡◌, ℕ, ◌+◌, ◌<◌, ◌≤◌, Bool, true, false, cond, leb, List, [], ◌∷◌, ◌++◌, map, length, get_or, drop, Some, None, Option, sym, refl, ap, ◌∙◌, subst, append_assoc, arith}
-use Rattle.std.proofs.lemmas.List.{drop_more, drop_all, append-nil}
+use Rattle.std.proofs.Common.{◌≡◌, ℕ, ◌+◌, Bool, true, false, cond, leb, List, [], ◌∷◌, ◌++◌, map, length, drop, Some, None, Option, sym, refl, ap, ◌∙◌, subst, append_assoc, arith}
+use Rattle.std.proofs.lemmas.List.{append-nil, map-append}
 use Rattle.token.specs.declared.token.Token.{Token}
-use Rattle.token.specs.Refusal.{done, refused}
 use Rattle.poller.specs.declared.entry.Event.{Event}
-use Rattle.poller.specs.declared.entry.Mode.TheVariants.{OneShot}
+use Rattle.poller.specs.declared.poller.Poller.{Ghosts as PollerOf}
 use Rattle.poller.specs.Meaning.{Answer}
-use Rattle.poller.specs.Register.{Request}
 use Rattle.timer_wheel.specs.declared.timeout.TimeoutData.{TimeoutData}
 use Rattle.std.specs.Option.{option_map}
 use Rattle.timer_wheel.specs.Entries.{Rising, expired}
@@ -14,10 +12,10 @@ use Rattle.timer_wheel.specs.Laws.{Drains, due_by, rest}
 use Rattle.timer_wheel.specs.Wheel.{Wheel, told, expired_of}
 use Rattle.timer_wheel.proofs.Expiry.{exact}
 use Rattle.levels.specs.declared.table.Line.{Line}
-use Rattle.levels.specs.Table.{line_of}
 use Rattle.sys.specs.declared.event.Class.TheVariants.{Timer}
 use Rattle.sys.specs.declared.event.PollEvent.{PollEvent}
-use Rattle.sys.specs.Polling.{Arms, Rearms, request, rung}
+use Rattle.sys.specs.Polling.{Rearms}
+use Rattle.sys.specs.Event.{rung}
 
 -- the event of a timer that the wheel told of
 abbrev pub ringing : ℕ × Token → PollEvent
@@ -29,18 +27,11 @@ pub record Taking (n : ℕ) (w : Wheel) (es : List PollEvent) (v : Wheel) (fs : 
   pub events : fs ≡ es ++ map ringing answers
   pub whole : (more : List (ℕ × Token)) (u : Wheel) → Drains n v more u → Drains n w (answers ++ more) u
 
-pub taking_none : (n : ℕ) (w : Wheel) (es : List PollEvent) → Taking n w es w es
-taking_none n w es = record { answers = []; events = sym (append-nil es); whole = λ more u d. d }
-
-map_push : (xs : List (ℕ × Token)) (a : ℕ × Token) → map ringing (xs ++ a ∷ []) ≡ map ringing xs ++ ringing a ∷ []
-map_push [] a = refl
-map_push (x ∷ xs) a = ap (λ (r : List PollEvent). ringing x ∷ r) (map_push xs a)
-
 pub taking_more : (n : ℕ) (w : Wheel) (es : List PollEvent) (v u : Wheel) (fs gs : List PollEvent) (a : ℕ × Token)
     → Taking n w es v fs → (Some a, u) ≡ expired_of n v → gs ≡ fs ++ ringing a ∷ [] → Taking n w es u gs
 taking_more n w es v u fs gs a t e g = record {
   answers = t.answers ++ a ∷ [];
-  events = g ∙ ap (λ (r : List PollEvent). r ++ ringing a ∷ []) t.events ∙ append_assoc es (map ringing t.answers) (ringing a ∷ []) ∙ ap (λ (r : List PollEvent). es ++ r) (sym (map_push t.answers a));
+  events = g ∙ ap (λ (r : List PollEvent). r ++ ringing a ∷ []) t.events ∙ append_assoc es (map ringing t.answers) (ringing a ∷ []) ∙ ap (λ (r : List PollEvent). es ++ r) (sym (map-append ringing t.answers (a ∷ [])));
   whole = λ more z d. subst (λ (rs : List (ℕ × Token)). Drains n w rs z) (sym (append_assoc t.answers (a ∷ []) more)) (t.whole (a ∷ more) z (u, sym e, d));
 }
 
@@ -48,17 +39,14 @@ taking_more n w es v u fs gs a t e g = record {
 pub taken_one : (n : ℕ) (v u : Wheel) (a : ℕ × Token) → ◌≡◌ {A = Option (ℕ × Token) × Wheel} (Some a, u) (expired_of n v) → length u.timers + 1 ≡ length v.timers
 taken_one n v u a e = at v.timers (ap (λ (p : Option (ℕ × Token) × Wheel). p.0) e) (ap (λ (p : Option (ℕ × Token) × Wheel). length p.1.timers) e)
   where
-    never : ◌≡◌ {A = Option (ℕ × Token)} (Some a) None → ⊥
-    never h = let z : ◌≡◌ {A = ℕ} 0 1 = cc in omega arith
-
     by : (x : TimeoutData) (xs : List TimeoutData) (b : Bool)
         → Some a ≡ option_map told (cond {A = Option TimeoutData × List TimeoutData} b (Some x, xs) (None, x ∷ xs)).0
         → length u.timers ≡ length (cond {A = Option TimeoutData × List TimeoutData} b (Some x, xs) (None, x ∷ xs)).1 → length u.timers + 1 ≡ length (x ∷ xs)
     by x xs true h k = omega arith
-    by x xs false h k = absurd (never h)
+    by x xs false h k = absurd cc
 
     at : (xs : List TimeoutData) → Some a ≡ option_map told (expired n xs).0 → length u.timers ≡ length (expired n xs).1 → length u.timers + 1 ≡ length xs
-    at [] h k = absurd (never h)
+    at [] h k = absurd cc
     at (x ∷ xs) h k = by x xs (leb x.deadline n) h k
 
 map_told : (xs : List TimeoutData) → map ringing (map told xs) ≡ map rung xs
@@ -75,29 +63,6 @@ taking_all n w es v u fs rising t e =
     (t.events ∙ ap (λ (rs : List (ℕ × Token)). es ++ map ringing rs) all ∙ ap (λ (r : List PollEvent). es ++ r) (map_told (due_by n w.timers)), only.1)
 
 -- Re-arming so far: whatever the rest comes to, the whole comes to.
-module _ {P : Type 0} (modifies : P → Request → Answer → P → Type 0) (ls : List Line) (vs : List Event) (p : P) where
+module _ {P : Type 0} (poller : PollerOf P) (ls : List Line) (vs : List Event) (p : P) where
   abbrev pub Arming : ℕ → P → Type 0
-  Arming i q = (r : Answer) (q' : P) → Rearms modifies ls (drop i vs) q r q' → Rearms modifies ls vs p r q'
-
-  -- ws is what the loop reads, the events once more
-  arming_step : (ws : List Event) → ws ≡ vs → (i : ℕ) (d : Event) (q : P) (o : Option Line) (r : Answer) (q' : P) → i < length vs → o ≡ line_of (get_or ws i d).key ls
-      → Arms modifies o (Rearms modifies ls (drop (i + 1) vs)) q r q' → Rearms modifies ls (drop i vs) q r q'
-  arming_step ws same i d q o r q' lt e h =
-      subst (λ (xs : List Event). Rearms modifies ls xs q r q') (sym (drop_more vs i d lt))
-      (subst (λ (x : Option Line). Arms modifies x (Rearms modifies ls (drop (i + 1) vs)) q r q') (e ∙ ap (λ (xs : List Event). line_of (get_or xs i d).key ls) same) h)
-
-  pub arming_skip : (ws : List Event) → ws ≡ vs → (i : ℕ) (d : Event) (q : P) → i < length vs → Arming i q → None ≡ line_of (get_or ws i d).key ls → Arming (i + 1) q
-  arming_skip ws same i d q lt inv none r q' h = inv r q' (arming_step ws same i d q None r q' lt none h)
-
-  pub arming_next : (ws : List Event) → ws ≡ vs → (i : ℕ) (d : Event) (q : P) (l : Line) (u : P) → i < length vs → Arming i q → Some l ≡ line_of (get_or ws i d).key ls
-      → modifies q (request l OneShot) (done tt) u → Arming (i + 1) u
-  arming_next ws same i d q l u lt inv some did r q' h = inv r q' (arming_step ws same i d q (Some l) r q' lt some (done tt, u, did, h))
-
-  pub arming_stop : (ws : List Event) → ws ≡ vs → (i : ℕ) (d : Event) (q : P) (l : Line) (u : P) (n : ℕ) (c : Option ℕ) → i < length vs → Arming i q → Some l ≡ line_of (get_or ws i d).key ls
-      → modifies q (request l OneShot) (refused n c) u → Rearms modifies ls vs p (refused n c) u
-  arming_stop ws same i d q l u n c lt inv some did =
-      inv (refused n c) u (arming_step ws same i d q (Some l) (refused n c) u lt some (refused n c, u, did, (refl, refl)))
-
-  pub arming_all : (i : ℕ) (q : P) → length vs ≤ i → Arming i q → Rearms modifies ls vs p (done tt) q
-  arming_all i q h inv =
-      inv (done tt) q (subst (λ (xs : List Event). Rearms modifies ls xs q (done tt) q) (sym (drop_all i vs h)) (refl, refl))
+  Arming i q = (r : Answer) (q' : P) → Rearms poller ls (drop i vs) q r q' → Rearms poller ls vs p r q'

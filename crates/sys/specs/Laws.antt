@@ -2,12 +2,14 @@
 use Rattle.std.specs.Prelude.{◌≡◌, ℕ, true, false, ◌⊎◌, List, [], ◌∷◌, map, Some, None, Option, ◌≢◌}
 use Rattle.poller.specs.declared.entry.Entry.{Entry}
 use Rattle.poller.specs.declared.entry.Mode.TheVariants.{OneShot}
+use Rattle.poller.specs.declared.poller.Poller.{Ghosts as PollerOf}
 use Rattle.poller.specs.Register.{entry_of}
 use Rattle.levels.specs.declared.table.Line.{Line}
 use Rattle.levels.specs.Table.{line_of}
 use Rattle.token.specs.Key.{key_of}
 use Rattle.sys.specs.declared.event.Class.TheVariants.{Polled}
 use Rattle.sys.specs.declared.event.PollEvent.{PollEvent}
+use Rattle.sys.specs.declared.poll.Poll.{Poll}
 
 abbrev pub In : {X : Type 0} → X → List X → Type 0
 In x [] = ⊥
@@ -33,9 +35,13 @@ pub record Touches (f : ℕ) (es : List Entry) (ls : Option (List Line)) (es' : 
   pub others : Untouched f es es'
   pub consistent : Consistent es ls → Consistent es' ls'
 
+-- the same of one polling system and the next
+abbrev pub TouchesFile : {P C : Type 0} → PollerOf P → ℕ → Poll P C → Poll P C → Type 0
+TouchesFile poller f s s' = Touches f (poller.entries s.poller) s.level_triggered (poller.entries s'.poller) s'.level_triggered
+
 -- the entry but for whether it is armed
 abbrev pub unarmed : Entry → Entry
-unarmed e = record { file = e.file; key = e.key; interest = e.interest; mode = e.mode; armed = false; stuck = e.stuck }
+unarmed e = record e { armed = false }
 
 -- a wait changes nothing of the entries but which are armed, and the level table stays
 pub record Wakeful (es : List Entry) (ls : Option (List Line)) (es' : List Entry) (ls' : Option (List Line)) : Type 0 where

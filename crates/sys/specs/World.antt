@@ -5,13 +5,15 @@ use Rattle.std.specs.Option.{option_map}
 use Rattle.token.specs.Refusal.{Outcome, done, refused}
 use Rattle.poller.specs.declared.entry.Entry.{Entry}
 use Rattle.poller.specs.declared.entry.Mode.{Mode}
+use Rattle.poller.specs.declared.poller.Poller.{Ghosts as PollerOf}
 use Rattle.poller.specs.Meaning.{Answer, Fate, add_of, modify_of, delete_of}
-use Rattle.poller.specs.Register.{Request}
+use Rattle.poller.specs.declared.entry.Request.{Request}
 use Rattle.timer_wheel.specs.Wheel.{Wheel, wheel_of}
 use Rattle.levels.specs.declared.table.Line.{Line}
 use Rattle.levels.specs.Table.{dropped, entered}
+use Rattle.sys.specs.declared.clock.Clock.{Ghosts as ClockOf}
 use Rattle.sys.specs.declared.poll.Poll.{Poll}
-use Rattle.sys.specs.Polling.{lines_after, mode_below_of, request, table_of}
+use Rattle.sys.specs.Polling.{lines_after, mode_below_of, request}
 
 -- the poller's entries and their most, the level table and the timers
 pub record World : Type 0 where
@@ -20,15 +22,15 @@ pub record World : Type 0 where
   pub lines : Option (List Line)
   pub wheel : Wheel
 
-abbrev pub world_of : {P C : Type 0} → (P → List Entry) → (P → ℕ) → Poll P C → World
-world_of entries most s = record { entries = entries s.poller; most = most s.poller; lines = table_of s.level_triggered; wheel = wheel_of s.timers }
+abbrev pub world_of : {P C : Type 0} → PollerOf P → Poll P C → World
+world_of poller s = record { entries = poller.entries s.poller; most = poller.most s.poller; lines = s.level_triggered; wheel = wheel_of s.timers }
 
 -- the same world with other entries and lines, or with another wheel
 abbrev pub with_table : World → List Entry → Option (List Line) → World
-with_table w es ls = record { entries = es; most = w.most; lines = ls; wheel = w.wheel }
+with_table w es ls = record w { entries = es; lines = ls }
 
 abbrev pub with_timers : World → Wheel → World
-with_timers w t = record { entries = w.entries; most = w.most; lines = w.lines; wheel = t }
+with_timers w t = record w { wheel = t }
 
 -- WHAT WAS ASKED OF THE POLLER AND THE CLOCK
 
@@ -39,17 +41,21 @@ pub data Exchange : Type 0 where
   deleted : ℕ → Answer → Exchange
   read : ℕ → Exchange
 
-module _ {P C : Type 0} (adds modifies : P → Request → Answer → P → Type 0) (deletes : P → ℕ → Answer → P → Type 0) (reads : C → ℕ → C → Type 0) where
+module _ {P C : Type 0} (poller : PollerOf P) (clock : ClockOf C) where
   abbrev pub Asked : List Exchange → P → C → P → C → Type 0
   Asked [] p c p' c' = (p' ≡ p) × (c' ≡ c)
-  Asked (added q r ∷ xs) p c p' c' = (m : P) × adds p q r m × Asked xs m c p' c'
-  Asked (modified q r ∷ xs) p c p' c' = (m : P) × modifies p q r m × Asked xs m c p' c'
-  Asked (deleted f r ∷ xs) p c p' c' = (m : P) × deletes p f r m × Asked xs m c p' c'
-  Asked (read n ∷ xs) p c p' c' = (m : C) × reads c n m × Asked xs p m p' c'
+  Asked (added q r ∷ xs) p c p' c' = (m : P) × poller.adds p q r m × Asked xs m c p' c'
+  Asked (modified q r ∷ xs) p c p' c' = (m : P) × poller.modifies p q r m × Asked xs m c p' c'
+  Asked (deleted f r ∷ xs) p c p' c' = (m : P) × poller.deletes p f r m × Asked xs m c p' c'
+  Asked (read n ∷ xs) p c p' c' = (m : C) × clock.reads c n m × Asked xs p m p' c'
 
   -- these questions were put in this order and answered so, each by the word of poller or clock
   pub record Exchanged (xs : List Exchange) (s s' : Poll P C) : Type 0 where
     pub asked : Asked xs s.poller s.clock s'.poller s'.clock
+
+  -- a call that may have asked: its questions, and what it came to from the world before to the world after
+  abbrev pub Between : Poll P C → Poll P C → (World → List Exchange → World → Type 0) → Type 0
+  Between s s' came = (xs : List Exchange) × Exchanged xs s s' × came (world_of poller s) xs (world_of poller s')
 
 -- CALLS
 
@@ -93,3 +99,7 @@ given_up f w a = record { answer = done tt; world = with_table w a.1 (option_map
 
 abbrev pub let_go_of : ℕ → World → Fate → Come
 let_go_of f w fate = given_up f w (delete_of w.entries f fate)
+
+-- a call came to this from one polling system to the next
+abbrev pub CameTo : {P C : Type 0} → PollerOf P → ClockOf C → (World → Fate → Come) → Poll P C → Answer → Poll P C → Type 0
+CameTo poller clock of s r s' = Comes (of (world_of poller s)) r (world_of poller s') (λ xs. Exchanged poller clock xs s s')

@@ -3,6 +3,7 @@ ghost use Rattle.std.specs.Prelude.{◌≡◌, ℕ};
 
 use poller::Poller;
 
+// A trait and no closure: only `now` gives `reads`, which ties a reading to its clock.
 pub trait Clock {
     // What a reading may be. Only `now` gives it, so that nobody can claim a reading that was not made.
     ghost reads: { Self → ℕ → Self → Type 0 };
@@ -13,7 +14,7 @@ pub trait Clock {
 }
 
 // What the world does to the poller's lines and the clock between two calls of the loop.
-// It leaves the poller's entries alone.
+// It leaves the poller's entries alone; that stands here, where of a closure each caller would have to prove it.
 pub trait Environment<P: Poller, C: Clock> {
     fn arrange(&mut self, poller: &mut P, clock: &mut C)
         ensures entries { P.Poller.entries poller.new ≡ P.Poller.entries poller.old }

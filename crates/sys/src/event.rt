@@ -1,8 +1,10 @@
 // Events as the loop hands them to their sources.
-ghost use Rattle.std.specs.Prelude.{◌≡◌, ◌≤◌, [], IfOk, vec_len, vec_capacity};
+ghost use Rattle.std.specs.Prelude.{◌≡◌, Some};
+ghost use Rattle.sys.specs.Event.{letter_of, polled};
 
-use poller::Readiness;
-use std::alloc::{AllocError, Global};
+use bounded::Bounded;
+use poller::{Event, Readiness};
+use std::fmt;
 use token::Token;
 
 // Where an event came from: a hook, the poller or the timers.
@@ -13,6 +15,19 @@ pub enum Class {
     Timer,
 }
 
+// The letter by which the sheets name it.
+impl fmt::Display for Class {
+    ghost output = { λ class. Some (letter_of class) };
+
+    fn fmt<W: fmt::Write>(&self, f: &mut fmt::Formatter<W>) -> fmt::Result {
+        f.write_str(match self {
+            Class::Synthetic => "S",
+            Class::Polled => "P",
+            Class::Timer => "T",
+        })
+    }
+}
+
 #[derive(Clone, Copy)]
 pub struct PollEvent {
     pub class: Class,
@@ -20,19 +35,18 @@ pub struct PollEvent {
     pub token: Token,
 }
 
-// The events of one wait: at most one for each of the poller's entries and each timer.
-#[derive(Drop)]
-pub struct PollEvents {
-    pub items: Vec<PollEvent>,
-    ghost room: { 512 ≤ vec_capacity items },
-    ghost few: { vec_len items ≤ 512 },
-}
+// What the poller reported, as an event of the loop.
+impl From<Event> for PollEvent {
+    ghost from_gives = { λ reported event. event ≡ polled reported };
 
-impl PollEvents {
-    pub fn new(heap: Global) -> Result<PollEvents, AllocError>
-        ensures { IfOk result (λ e. e.items.items ≡ []) }
-    {
-        let items = Vec::with_capacity(heap, 512)?;
-        Ok(PollEvents { items })
+    fn from(event: Event) -> PollEvent {
+        PollEvent {
+            class: Class::Polled,
+            readiness: Readiness::from(event),
+            token: Token::from(event.key),
+        }
     }
 }
+
+// The events of one wait: at most one for each of the poller's entries and each timer.
+pub type PollEvents = Bounded<PollEvent, 512>;

@@ -1,22 +1,44 @@
 // Registration: what a source asks of the poller and the timers.
 ghost use Rattle.std.specs.Prelude.{◌≡◌, [], IfOk, None};
-ghost use Rattle.token.specs.Key.{key_of};
 ghost use Rattle.token.specs.Refusal.{Done, done, outcome};
 ghost use Rattle.timer_wheel.specs.Wheel.{cancel_of, empty, insert_of, reuse_of};
-ghost use Rattle.levels.specs.Table.{dropped, entered, lines_of};
+ghost use Rattle.levels.specs.Table.{dropped, entered};
 ghost use Rattle.levels.specs.declared.table.Line.{Line};
 ghost use Rattle.std.specs.Option.{option_map};
-ghost use Rattle.sys.specs.Laws.{Touches};
-ghost use Rattle.sys.specs.Polling.{LetsGo, Registers, State, Unregisters, mode_below_of, new_table, state_of, table_of, with_clock, with_lines, with_poller, with_wheel};
-ghost use Rattle.sys.specs.World.{Comes, Exchanged, let_go_of, register_of, reregister_of, unregister_of, world_of};
+ghost use Rattle.sys.specs.Laws.{TouchesFile};
+ghost use Rattle.sys.specs.Polling.{AsksBy, LetsGo, Registers, Unregisters, line_for, mode_below_of, new_table, request, state_of, with_clock, with_lines, with_poller, with_wheel};
+ghost use Rattle.sys.specs.World.{CameTo, let_go_of, register_of, reregister_of, unregister_of};
 
 use crate::clock::{Clock, Environment};
 use crate::poll::Poll;
 use levels::{Levels, Line};
-use poller::{Events, Interest, Mode, Poller};
+use poller::{Events, Interest, Mode, Poller, Request};
 use std::alloc::{AllocError, Global};
 use timer_wheel::TimerWheel;
 use token::{Error, Token};
+
+// What the level table notes of a registration.
+fn to_line(file: u32, interest: Interest, token: Token) -> Line
+    ensures { result ≡ line_for file interest token }
+{
+    Line {
+        key: u64::from(token),
+        file,
+        interest,
+    }
+}
+
+// What the poller is asked for the line's file. A function, since both types are of other crates.
+pub(crate) fn to_request(line: Line, mode: Mode) -> Request
+    ensures { result ≡ request line mode }
+{
+    Request {
+        file: line.file,
+        key: line.key,
+        interest: line.interest,
+        mode,
+    }
+}
 
 impl<P: Poller, C: Clock> Poll<P, C> {
     // Reserves all memory that the polling system will ever use.
@@ -24,9 +46,9 @@ impl<P: Poller, C: Clock> Poll<P, C> {
     where
         P: Drop,
         C: Drop,
-        ensures { IfOk result (λ s. state_of s ≡ record { poller = poller; clock = clock; wheel = empty; lines = new_table P.Poller.level }) }
+        ensures { IfOk result (λ s. state_of s ≡ record { poller = poller; clock = clock; wheel = empty; lines = new_table P.Poller.LEVEL }) }
     {
-        let level_triggered = if poller.level_mode() {
+        let level_triggered = if P::LEVEL {
             None
         } else {
             Some(Levels::new(heap)?)
@@ -57,6 +79,7 @@ impl<P: Poller, C: Clock> Poll<P, C> {
         environment.arrange(&mut self.poller, &mut self.clock);
     }
 
+    // The parameters are calloop's, here and in `reregister`.
     pub fn register(
         &mut self,
         file: u32,
@@ -64,16 +87,12 @@ impl<P: Poller, C: Clock> Poll<P, C> {
         mode: Mode,
         token: Token,
     ) -> Result<(), Error>
-        ensures is { Registers P.Poller.adds (record { key = key_of token; file = file; interest = interest }) mode (state_of self.old) (outcome result) (state_of self.new) }
-        ensures plain { Comes (register_of (record { key = key_of token; file = file; interest = interest }) mode (world_of P.Poller.entries P.Poller.most self.old)) (outcome result) (world_of P.Poller.entries P.Poller.most self.new) (λ xs. Exchanged P.Poller.adds P.Poller.modifies P.Poller.deletes C.Clock.reads xs self.old self.new) }
-        ensures touches { Touches file (P.Poller.entries self.old.poller) (state_of self.old).lines (P.Poller.entries self.new.poller) (state_of self.new).lines }
+        ensures is { Registers P.Poller.adds (line_for file interest token) mode (state_of self.old) (outcome result) (state_of self.new) }
+        ensures plain { CameTo P.Poller C.Clock (register_of (line_for file interest token) mode) self.old (outcome result) self.new }
+        ensures touches { TouchesFile P.Poller file self.old self.new }
     {
-        let line = Line {
-            key: token.key(),
-            file,
-            interest,
-        };
-        self.add(line, mode)
+        let line = to_line(file, interest, token);
+        self.send(line, mode, P::add)
     }
 
     pub fn reregister(
@@ -83,31 +102,27 @@ impl<P: Poller, C: Clock> Poll<P, C> {
         mode: Mode,
         token: Token,
     ) -> Result<(), Error>
-        ensures is { Registers P.Poller.modifies (record { key = key_of token; file = file; interest = interest }) mode (state_of self.old) (outcome result) (state_of self.new) }
-        ensures plain { Comes (reregister_of (record { key = key_of token; file = file; interest = interest }) mode (world_of P.Poller.entries P.Poller.most self.old)) (outcome result) (world_of P.Poller.entries P.Poller.most self.new) (λ xs. Exchanged P.Poller.adds P.Poller.modifies P.Poller.deletes C.Clock.reads xs self.old self.new) }
-        ensures touches { Touches file (P.Poller.entries self.old.poller) (state_of self.old).lines (P.Poller.entries self.new.poller) (state_of self.new).lines }
+        ensures is { Registers P.Poller.modifies (line_for file interest token) mode (state_of self.old) (outcome result) (state_of self.new) }
+        ensures plain { CameTo P.Poller C.Clock (reregister_of (line_for file interest token) mode) self.old (outcome result) self.new }
+        ensures touches { TouchesFile P.Poller file self.old self.new }
     {
-        let line = Line {
-            key: token.key(),
-            file,
-            interest,
-        };
-        self.modify(line, mode)
+        let line = to_line(file, interest, token);
+        self.send(line, mode, P::modify)
     }
 
     pub fn unregister(&mut self, file: u32) -> Result<(), Error>
-        ensures is { Unregisters P.Poller.deletes file (state_of self.old) (outcome result) (state_of self.new) }
-        ensures plain { Comes (unregister_of file (world_of P.Poller.entries P.Poller.most self.old)) (outcome result) (world_of P.Poller.entries P.Poller.most self.new) (λ xs. Exchanged P.Poller.adds P.Poller.modifies P.Poller.deletes C.Clock.reads xs self.old self.new) }
-        ensures touches { Touches file (P.Poller.entries self.old.poller) (state_of self.old).lines (P.Poller.entries self.new.poller) (state_of self.new).lines }
+        ensures is { Unregisters P.Poller file (state_of self.old) (outcome result) (state_of self.new) }
+        ensures plain { CameTo P.Poller C.Clock (unregister_of file) self.old (outcome result) self.new }
+        ensures touches { TouchesFile P.Poller file self.old self.new }
     {
         self.delete(file)
     }
 
     // Gives the file up: one more delete, whatever it answers.
     pub fn let_go(&mut self, file: u32)
-        ensures is { LetsGo P.Poller.deletes file (state_of self.old) (state_of self.new) }
-        ensures plain { Comes (let_go_of file (world_of P.Poller.entries P.Poller.most self.old)) (done tt) (world_of P.Poller.entries P.Poller.most self.new) (λ xs. Exchanged P.Poller.adds P.Poller.modifies P.Poller.deletes C.Clock.reads xs self.old self.new) }
-        ensures touches { Touches file (P.Poller.entries self.old.poller) (state_of self.old).lines (P.Poller.entries self.new.poller) (state_of self.new).lines }
+        ensures is { LetsGo P.Poller file (state_of self.old) (state_of self.new) }
+        ensures plain { CameTo P.Poller C.Clock (let_go_of file) self.old (done tt) self.new }
+        ensures touches { TouchesFile P.Poller file self.old self.new }
     {
         let _ = self.poller.delete(file);
         self.forget(file);
@@ -135,30 +150,22 @@ impl<P: Poller, C: Clock> Poll<P, C> {
         self.timers.cancel(counter);
     }
 
-    // Adds the line's file to the poller, and notes the line.
-    fn add(&mut self, line: Line, mode: Mode) -> Result<(), Error>
-        ensures { Registers P.Poller.adds line mode (state_of self.old) (outcome result) (state_of self.new) }
+    // Asks the poller for the line's file in the mode below, and notes the line.
+    fn send<F>(&mut self, line: Line, mode: Mode, ask: F) -> Result<(), Error>
+    where
+        F: FnOnce(&mut P, Request) -> Result<(), Error>,
+        requires { F.IsAlwaysCallable ask }
+        ensures { Registers (AsksBy F.FnOnce ask) line mode (state_of self.old) (outcome result) (state_of self.new) }
     {
         let below = self.mode_below(line.key, mode)?;
-        self.poller.add(line.file, line.key, line.interest, below)?;
-        self.note(line, mode);
-        Ok(())
-    }
-
-    // The same by a modify.
-    fn modify(&mut self, line: Line, mode: Mode) -> Result<(), Error>
-        ensures { Registers P.Poller.modifies line mode (state_of self.old) (outcome result) (state_of self.new) }
-    {
-        let below = self.mode_below(line.key, mode)?;
-        self.poller
-            .modify(line.file, line.key, line.interest, below)?;
+        ask(&mut self.poller, to_request(line, below))?;
         self.note(line, mode);
         Ok(())
     }
 
     // Deletes the file from the poller, and forgets its lines.
     fn delete(&mut self, file: u32) -> Result<(), Error>
-        ensures { Unregisters P.Poller.deletes file (state_of self.old) (outcome result) (state_of self.new) }
+        ensures { Unregisters P.Poller file (state_of self.old) (outcome result) (state_of self.new) }
     {
         self.poller.delete(file)?;
         self.forget(file);
@@ -167,21 +174,21 @@ impl<P: Poller, C: Clock> Poll<P, C> {
 
     // The mode in which a registration goes down to the poller.
     fn mode_below(&self, key: u64, mode: Mode) -> Result<Mode, Error>
-        ensures { outcome result ≡ mode_below_of (table_of self.now.level_triggered) key mode }
+        ensures { outcome result ≡ mode_below_of self.now.level_triggered key mode }
     {
-        match &self.level_triggered {
-            None => Ok(mode),
-            Some(levels) => match mode {
-                Mode::Edge => Err(Error::NoEdge),
-                Mode::Level if levels.is_full_for(key) => Err(Error::LevelFull),
-                _ => Ok(Mode::OneShot),
-            },
+        let Some(levels) = &self.level_triggered else {
+            return Ok(mode);
+        };
+        match mode {
+            Mode::Edge => Err(Error::NoEdge),
+            Mode::Level if levels.is_full_for(key) => Err(Error::LevelFull),
+            Mode::Level | Mode::OneShot => Ok(Mode::OneShot),
         }
     }
 
     // The table after an accepted registration.
     fn note(&mut self, line: Line, mode: Mode)
-        requires { Done (mode_below_of (table_of self.old.level_triggered) line.key mode) }
+        requires { Done (mode_below_of self.old.level_triggered line.key mode) }
         ensures { state_of self.new ≡ with_lines (state_of self.old) (option_map (entered line mode) (state_of self.old).lines) }
     {
         if let Some(levels) = &mut self.level_triggered {

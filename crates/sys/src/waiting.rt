@@ -1,20 +1,21 @@
 // The wait: the poller's events, re-armed where level mode is emulated, and the timers that are due.
 ghost use Rattle.std.specs.Prelude.{◌≡◌, ℕ, ◌≤◌, [], ◌++◌, map, vec_len};
 ghost use Rattle.token.specs.Refusal.{done, outcome};
-ghost use Rattle.levels.specs.Table.{lines_of};
 ghost use Rattle.timer_wheel.specs.Laws.{due_by, rest};
 ghost use Rattle.timer_wheel.specs.Wheel.{first_deadline, wheel_of};
+ghost use Rattle.sys.specs.Event.{polled, rung};
 ghost use Rattle.sys.specs.Laws.{Rearmed, Wakeful};
-ghost use Rattle.sys.specs.Polling.{Polls, Rearms, RearmsIn, polled, rung, state_of, with_clock, with_poller, with_wheel};
+ghost use Rattle.sys.specs.Polling.{Polls, Rearms, RearmsIn, state_of, with_clock, with_poller, with_wheel};
 ghost use Rattle.sys.specs.Timeout.{TimedBy};
 
 use crate::clock::Clock;
 use crate::event::{Class, PollEvent, PollEvents};
 use crate::poll::Poll;
+use crate::registering::to_request;
 use levels::Levels;
 use poller::{Events, Mode, Poller, Readiness};
 use timer_wheel::TimerWheel;
-use token::{Error, Token};
+use token::Error;
 
 // Takes the timers that are due, by rising deadline.
 fn take_due(timers: &mut TimerWheel, clock: u64, events: &mut PollEvents)
@@ -23,14 +24,9 @@ fn take_due(timers: &mut TimerWheel, clock: u64, events: &mut PollEvents)
     ensures wheel { wheel_of timers.new ≡ rest clock (wheel_of timers.old) }
 {
     while let Some((_, token)) = timers.next_expired(clock) {
-        let readiness = Readiness {
-            readable: true,
-            writable: false,
-            error: false,
-        };
         events.items.push_reserved(PollEvent {
             class: Class::Timer,
-            readiness,
+            readiness: Readiness::READ,
             token,
         });
     }
@@ -38,12 +34,11 @@ fn take_due(timers: &mut TimerWheel, clock: u64, events: &mut PollEvents)
 
 // A modify in OneShot mode for each event whose key has a line, up to the first that fails.
 fn arm_again<P: Poller>(poller: &mut P, levels: &Levels, events: &Events) -> Result<(), Error>
-    ensures { Rearms P.Poller.modifies (lines_of levels.now) events.now.items.items poller.old (outcome result) poller.new }
+    ensures { Rearms P.Poller levels.now events.now.items.items poller.old (outcome result) poller.new }
 {
     for event in events.items.iter() {
-        match levels.find(event.key) {
-            None => {}
-            Some(line) => poller.modify(line.file, line.key, line.interest, Mode::OneShot)?,
+        if let Some(line) = levels.find(event.key) {
+            poller.modify(to_request(line, Mode::OneShot))?;
         }
     }
     Ok(())
@@ -53,7 +48,7 @@ impl<P: Poller, C: Clock> Poll<P, C> {
     // Waits for events: the poller's in their order, then the timers that are due, by rising deadline.
     // Where the re-arming of one fails the wait does, and `events` has those that are lost.
     pub fn poll(&mut self, timeout: Option<u64>, events: &mut PollEvents) -> Result<(), Error>
-        ensures is { Polls P.Poller.modifies C.Clock.reads P.Poller.waits timeout (state_of self.old) (outcome result) events.new.items.items (state_of self.new) }
+        ensures is { Polls P.Poller C.Clock timeout (state_of self.old) (outcome result) events.new.items.items (state_of self.new) }
         ensures wakeful { Wakeful (P.Poller.entries self.old.poller) (state_of self.old).lines (P.Poller.entries self.new.poller) (state_of self.new).lines }
         ensures rearmed { outcome result ≡ done tt → Rearmed (state_of self.old).lines events.new.items.items (P.Poller.entries self.new.poller) }
     {
@@ -61,7 +56,7 @@ impl<P: Poller, C: Clock> Poll<P, C> {
     }
 
     fn wait(&mut self, timeout: Option<u64>, events: &mut PollEvents) -> Result<(), Error>
-        ensures { Polls P.Poller.modifies C.Clock.reads P.Poller.waits timeout (state_of self.old) (outcome result) events.new.items.items (state_of self.new) }
+        ensures { Polls P.Poller C.Clock timeout (state_of self.old) (outcome result) events.new.items.items (state_of self.new) }
     {
         events.items.clear();
         let timeout = self.timeout(timeout);
@@ -74,20 +69,14 @@ impl<P: Poller, C: Clock> Poll<P, C> {
 
     // How long the wait may take: no longer than to the earliest deadline.
     fn timeout(&mut self, given: Option<u64>) -> Option<u64>
-        ensures timed { TimedBy C.Clock.reads given (first_deadline (state_of self.old).wheel) self.old.clock self.new.clock result }
+        ensures timed { TimedBy C.Clock given (first_deadline (state_of self.old).wheel) self.old.clock self.new.clock result }
         ensures same { state_of self.new ≡ with_clock (state_of self.old) self.new.clock }
     {
-        match (given, self.timers.next_deadline()) {
-            (Some(timeout), Some(deadline)) => {
-                let clock = self.clock.now();
-                Some(timeout.min(deadline.saturating_sub(clock)))
-            }
-            (None, Some(deadline)) => {
-                let clock = self.clock.now();
-                Some(deadline.saturating_sub(clock))
-            }
-            (given, None) => given,
-        }
+        let Some(deadline) = self.timers.next_deadline() else {
+            return given;
+        };
+        let left = deadline.saturating_sub(self.clock.now());
+        Some(given.map_or(left, |timeout| timeout.min(left)))
     }
 
     // What the poller reported, as events of the loop.
@@ -96,24 +85,15 @@ impl<P: Poller, C: Clock> Poll<P, C> {
         ensures items { events.new.items.items ≡ map polled self.now.events.items.items }
         ensures few { vec_len events.new.items ≤ 256 }
     {
+        // `extend` may allocate, and the memory is reserved.
         for event in self.events.items.iter() {
-            let readiness = Readiness {
-                readable: event.readable,
-                writable: event.writable,
-                error: false,
-            };
-            let token = Token::from_key(event.key);
-            events.items.push_reserved(PollEvent {
-                class: Class::Polled,
-                readiness,
-                token,
-            });
+            events.items.push_reserved(PollEvent::from(*event));
         }
     }
 
     // Arms again what was reported and stands in the level table.
     fn rearm(&mut self) -> Result<(), Error>
-        ensures rearms { RearmsIn P.Poller.modifies (state_of self.old).lines self.old.events.items.items self.old.poller (outcome result) self.new.poller }
+        ensures rearms { RearmsIn P.Poller (state_of self.old).lines self.old.events.items.items self.old.poller (outcome result) self.new.poller }
         ensures same { state_of self.new ≡ with_poller (state_of self.old) self.new.poller }
     {
         match &self.level_triggered {

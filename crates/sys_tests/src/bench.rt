@@ -1,9 +1,9 @@
 // Over the bench poller, which has no level mode.
-use crate::world::{Script, SetClock, token};
+use crate::world::token;
 use poller::{BenchPoller, Interest, Mode, Step};
 use std::alloc::{AllocError, Global};
 use std::test::Fail;
-use sys::{Environment, Poll, PollEvents};
+use sys::{Poll, PollEvents, SetClock, Setting};
 use token::Error;
 
 type Bench = Poll<BenchPoller, SetClock>;
@@ -16,7 +16,7 @@ fn new_poll(heap: Global) -> Result<Bench, AllocError> {
 // Makes the files ready, and answers how many events a wait brings.
 fn count(heap: Global, poll: &mut Bench, files: &[u32], time: u64) -> Result<usize, Fail> {
     let ready = Some(files.to_vec(heap)?);
-    poll.arrange(&mut Script {
+    poll.arrange(&mut Setting {
         time,
         ready,
         plan: None,
@@ -59,7 +59,7 @@ fn failed_arming_loses_the_wait(rt: HostRuntime) -> Result<(), Fail> {
     assert_eq!(rt; poll.insert_timer(5, token(9)), Ok(0));
     let ready = Some([0, 1, 2].to_vec(heap)?);
     let plan = Some([Step::Work, Step::Work, Step::Fail(4)].to_vec(heap)?);
-    poll.arrange(&mut Script {
+    poll.arrange(&mut Setting {
         time: 5,
         ready,
         plan,
@@ -86,7 +86,7 @@ fn interrupted_and_refused(rt: HostRuntime) -> Result<(), Fail> {
         Err(Error::NotFound)
     );
     let plan = Some([Step::Interrupt].to_vec(heap)?);
-    poll.arrange(&mut Script {
+    poll.arrange(&mut Setting {
         time: 0,
         ready: None,
         plan,

@@ -1,9 +1,9 @@
 // Over the line poller, which has level mode.
-use crate::world::{Lines, SetClock, token};
+use crate::world::{Lines, token};
 use poller::{Interest, LinePoller, Mode};
 use std::alloc::Global;
 use std::test::Fail;
-use sys::{Environment, Poll, PollEvents};
+use sys::{Poll, PollEvents, SetClock};
 use token::Error;
 
 // Sets the lines, and answers how many events a wait brings.

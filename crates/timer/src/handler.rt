@@ -1,11 +1,10 @@
-// What is done when the timer rings.
+// What is done when the timer rings. No closure, for the reason that the handler of a Generic is none.
 ghost use Rattle.std.specs.Prelude.{ℕ, List};
 ghost use Rattle.rules.specs.Kinds.{Grown};
-ghost use Rattle.kinds.specs.Errands.{errands_of};
 ghost use Rattle.kinds.specs.declared.errand.Errand.{Errand};
-ghost use Rattle.timer.specs.declared.timer.TimeoutAction.{TimeoutAction};
+ghost use Rattle.alarm.specs.declared.alarm.TimeoutAction.{TimeoutAction};
 
-use crate::timer::TimeoutAction;
+use alarm::TimeoutAction;
 use kinds::Errands;
 
 pub trait TimerHandler {
@@ -13,7 +12,7 @@ pub trait TimerHandler {
     ghost rings: { Self → ℕ → List Errand → TimeoutAction → Self → List Errand → Type 0 };
 
     fn ring(&mut self, deadline: u64, errands: &mut Errands) -> TimeoutAction
-        ensures { rings self.old deadline (errands_of errands.old) result self.new (errands_of errands.new) };
+        ensures { rings self.old deadline errands.old result self.new errands.new };
 
     // Errands are asked for behind those that stand.
     ghost ringing: { (h : Self) (d : ℕ) (es : List Errand) (r : TimeoutAction) (h' : Self) (es' : List Errand) → rings h d es r h' es' → Grown es es' };

@@ -1,3 +1,2 @@
-pub mod Order
-pub mod Walks
+pub mod Entry
 pub mod Expiry

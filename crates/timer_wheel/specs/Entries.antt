@@ -1,10 +1,11 @@
 -- The list of entries: the earliest first, equal deadlines in order of entry.
-use Rattle.std.specs.Prelude.{ℕ, suc, ◌<◌, ◌≤◌, Bool, cond, not, List, [], ◌∷◌, length, Some, None, Option, ◌==◌, nat_le, nat_lt, slice_index_or}
+use Rattle.std.specs.Prelude.{ℕ, Bool, cond, not, List, [], ◌∷◌, filter, Some, None, Option, ◌==◌, nat_le, nat_lt}
+use Rattle.std.specs.List.Sorted.{IsNonDecreasingBy}
 use Rattle.timer_wheel.specs.declared.timeout.TimeoutData.{TimeoutData}
 
 -- no entry is due before the one in front of it
 abbrev pub Rising : List TimeoutData → Type 0
-Rising xs = (i : ℕ) (d : TimeoutData) → suc i < length xs → (slice_index_or xs i d).deadline ≤ (slice_index_or xs (suc i) d).deadline
+Rising = IsNonDecreasingBy (λ x. x.deadline)
 
 -- a newcomer joins before the first entry with a larger deadline
 abbrev pub enter : TimeoutData → List TimeoutData → List TimeoutData
@@ -21,8 +22,7 @@ stays k x = not (x.counter == k)
 
 -- all entries with the counter go
 abbrev pub without : ℕ → List TimeoutData → List TimeoutData
-without k [] = []
-without k (x ∷ xs) = cond (x.counter == k) (without k xs) (x ∷ without k xs)
+without k = filter (stays k)
 
 -- THE RULE OF CANCEL: the earliest entry alone where it has the counter, and else all with the counter
 abbrev pub cancelled : ℕ → List TimeoutData → List TimeoutData

@@ -12,8 +12,9 @@ pub record Wheel : Type 0 where
   pub timers : List TimeoutData
   pub next : ℕ
 
+-- a function and no model: callers read how few entries stand, and that they rise
 abbrev pub wheel_of : TimerWheel → Wheel
-wheel_of w = record { timers = vec_items w.entries; next = w.counter }
+wheel_of w = record { timers = vec_items w.entries.items; next = w.counter }
 
 abbrev pub empty : Wheel
 empty = record { timers = []; next = 0 }

@@ -1,8 +1,6 @@
 // The timers of the loop, in order of deadline.
 #![tactic(auto)]
 
-mod calls;
-mod entries;
 #[cfg(test)]
 mod tests;
 mod timeout;

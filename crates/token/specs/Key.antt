@@ -1,5 +1,5 @@
 -- Tokens and their keys.
-use Rattle.std.specs.Prelude.{ℕ, ◌+◌, ◌*◌, ◌/◌, ◌%◌, ◌^◌, Bool, false, cond, ◌==◌}
+use Rattle.std.specs.Prelude.{◌≡◌, ℕ, ◌+◌, ◌*◌, ◌/◌, ◌%◌, ◌^◌, Bool, false, cond, ◌==◌}
 use Rattle.token.specs.declared.token.Token.{Token}
 
 abbrev pub key_of : Token → ℕ
@@ -7,6 +7,11 @@ key_of t = t.id * 2 ^ 32 + t.version * 2 ^ 16 + t.sub_id
 
 abbrev pub token_of : ℕ → Token
 token_of k = record { id = k / 2 ^ 32; version = k / 2 ^ 16 % 2 ^ 16; sub_id = k % 2 ^ 16 }
+
+-- the key is the token's, and the token is the key's
+pub record Keyed (t : Token) (k : ℕ) : Type 0 where
+  pub key : k ≡ key_of t
+  pub token : t ≡ token_of k
 
 -- of one slot at one version
 abbrev pub same_source : Token → Token → Bool

@@ -28,6 +28,7 @@ pub enum Error {
 }
 
 impl Error {
+    // The number by which a refusal is told.
     pub fn number(self) -> u8
         ensures { result ≡ number_of self }
     {

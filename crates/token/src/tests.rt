@@ -8,8 +8,8 @@ fn key_and_back(rt: HostRuntime) {
         version: 2,
         sub_id: 3,
     };
-    assert_eq!(rt; token.key(), 4_295_098_371);
-    assert_eq!(rt; Token::from_key(4_295_098_371), token);
+    assert_eq!(rt; u64::from(token), 4_295_098_371);
+    assert_eq!(rt; Token::from(4_295_098_371), token);
     let last = Token {
         id: 7,
         version: 65_535,

@@ -1,6 +1,6 @@
 // A token names a slot, the version at which the slot was given out, and one registration of its source.
 ghost use Rattle.std.specs.Prelude.{◌≡◌};
-ghost use Rattle.token.specs.Key.{key_of, next_version, own_source, same_source, token_of};
+ghost use Rattle.token.specs.Key.{Keyed, next_version, own_source, same_source};
 
 #[derive(Clone, Copy, PartialEq, Eq, Debug)]
 pub struct Token {
@@ -10,25 +10,6 @@ pub struct Token {
 }
 
 impl Token {
-    // The number under which the poller knows the token.
-    pub fn key(self) -> u64
-        ensures value { result ≡ key_of self }
-        ensures back { token_of result ≡ self }
-    {
-        self.id as u64 * 4_294_967_296 + self.version as u64 * 65_536 + self.sub_id as u64
-    }
-
-    pub fn from_key(key: u64) -> Token
-        ensures value { result ≡ token_of key }
-        ensures back { key_of result ≡ key }
-    {
-        Token {
-            id: (key / 4_294_967_296) as u32,
-            version: (key / 65_536 % 65_536) as u16,
-            sub_id: (key % 65_536) as u16,
-        }
-    }
-
     pub fn same_source_as(self, other: Token) -> bool
         ensures { result ≡ same_source self other }
     {
@@ -51,5 +32,28 @@ impl Token {
         ensures { result ≡ own_source self }
     {
         Token { sub_id: 0, ..self }
+    }
+}
+
+// The number under which the poller knows the token.
+impl From<Token> for u64 {
+    ghost from_gives = { λ token key. Keyed token key };
+
+    fn from(token: Token) -> u64 {
+        u64::from(token.id) * 4_294_967_296
+            + u64::from(token.version) * 65_536
+            + u64::from(token.sub_id)
+    }
+}
+
+impl From<u64> for Token {
+    ghost from_gives = { λ key token. Keyed token key };
+
+    fn from(key: u64) -> Token {
+        Token {
+            id: (key / 4_294_967_296) as u32,
+            version: (key / 65_536 % 65_536) as u16,
+            sub_id: (key % 65_536) as u16,
+        }
     }
 }

@@ -1,6 +1,8 @@
+use Rattle.std.proofs.Common.{rules}
 use Rattle.script.proofs.Reading.{refused_file}
 use Rattle.script.proofs.read_file.Goals as goal
 
-pub returns-in-Err : goal.returns-in-Err
-returns-in-Err c =
-    refused_file _ c.in_ok-number.number c.in_ok-number.rest.now c.in_ok-number.ensures c.in-Err.ensures
+pub returns-in_err-file : goal.returns-in_err-file
+returns-in_err-file c =
+    rw c.from_residual-in_err-file.ensures
+    (refused_file _ _ _ c.in_ok-number.ensures (search rules))

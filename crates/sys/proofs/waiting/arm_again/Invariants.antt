@@ -1,8 +1,7 @@
 use Rattle.std.proofs.Common.{vec_items}
-use Rattle.levels.specs.Table.{lines_of}
 use Rattle.sys.proofs.Waits.{Arming}
 use Rattle.sys.proofs.waiting.arm_again.Given as goal
 
 abbrev pub invariant-loop-event : goal.invariant-loop-event
 invariant-loop-event g l =
-    Arming g.P.Poller.modifies (lines_of l.levels) (vec_items l.events.items) l.initial.poller l.event-index l.poller
+    Arming g.P.Poller l.levels (vec_items l.events.items) l.initial.poller l.event-index l.poller

@@ -1,11 +1,7 @@
 use Rattle.std.proofs.Common.{vec_items, arith}
 use Rattle.timer_wheel.specs.Wheel.{wheel_of}
-use Rattle.sys.proofs.Waits.{taking_none, taking_more, taking_all, taken_one}
+use Rattle.sys.proofs.Waits.{taking_more, taking_all, taken_one}
 use Rattle.sys.proofs.waiting.take_due.Goals as goal
-
-pub loop-token-init : goal.loop-token-init
-loop-token-init c =
-    (omega (arith, c.requires, c.args.timers.now.few, c.args.timers.now.entries.ok.0), taking_none c.args.clock _ _)
 
 pub loop-token-preserved : goal.loop-token-preserved
 loop-token-preserved c =

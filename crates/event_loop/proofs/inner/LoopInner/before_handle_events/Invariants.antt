@@ -1,5 +1,5 @@
-use Rattle.list.specs.Slots.{Calm, slots_of}
+use Rattle.list.specs.Slots.{Calm}
 use Rattle.event_loop.proofs.inner.LoopInner.before_handle_events.Given as goal
 
-abbrev pub invariant-loop-i : goal.invariant-loop-i
-invariant-loop-i g l = Calm (slots_of l.self.sources)
+abbrev pub invariant-loop-token : goal.invariant-loop-token
+invariant-loop-token g l = Calm l.sources

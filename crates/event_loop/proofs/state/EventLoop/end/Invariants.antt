@@ -1,6 +1,5 @@
 use Rattle.std.proofs.Common.{length}
-use Rattle.list.specs.Slots.{slots_of}
 use Rattle.event_loop.proofs.state.EventLoop.end.Given as goal
 
 abbrev pub decreases-loop-slot : goal.decreases-loop-slot
-decreases-loop-slot g l = length (slots_of l.sources)
+decreases-loop-slot g l = length l.sources

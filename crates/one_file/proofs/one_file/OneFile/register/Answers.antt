@@ -1,15 +1,21 @@
+use Rattle.std.proofs.Common.{rules}
+use Rattle.sys.specs.World.{register_of, world_of}
 use Rattle.sys.proofs.Plain.{exchanged_then}
-use Rattle.one_file.proofs.Made.{register_is}
+use Rattle.one_file.specs.Calls.{line_of}
 use Rattle.one_file.proofs.one_file.OneFile.register.Goals as goal
+
+pub returns-in_err-register : goal.returns-in_err-register
+returns-in_err-register g c =
+    let p = g.P.Poller in
+    let b = c.let_go.ensures in
+    let e = c.in_err-register.ensures.plain in
+    let s = c.let_go.new.self in
+    (_, exchanged_then p g.C.Clock {xs = b.0} {ys = (register_of (line_of s c.token.result) s.mode (world_of p c.let_go.new.poll) e.fate).exchanges} b.1 e.exchanged, (b.2.0, e.fate, search rules))
 
 pub returns : goal.returns
 returns g c =
     let p = g.P.Poller in
-    let k = g.T.Tickets in
-    let b = c.clear.ensures in
-    let e = c.enter.ensures in
-    let t = c.in_ok-tickets.ensures in (
-      _,
-      exchanged_then p.adds p.modifies p.deletes g.C.Clock.reads b.exchanged e.exchanged,
-      (b.fate, e.fate, register_is k.main k.draws c.args.self.now c.clear.new.self _ _ _ _ _ _ _ _ b _ _ (record { id = t.same.0; version = t.same.1; next = t.draws }) e),
-    )
+    let b = c.let_go.ensures in
+    let e = c.in_ok-register.ensures.plain in
+    let s = c.let_go.new.self in
+    (_, exchanged_then p g.C.Clock {xs = b.0} {ys = (register_of (line_of s c.token.result) s.mode (world_of p c.let_go.new.poll) e.fate).exchanges} b.1 e.exchanged, (b.2.0, e.fate, search rules))

@@ -1,5 +1,5 @@
 use Rattle.std.proofs.Common.{◌≡◌, map, take, vec_items, vec_len}
-use Rattle.sys.specs.Polling.{polled}
+use Rattle.sys.specs.Event.{polled}
 use Rattle.sys.proofs.poll.Poll.hand_out.Given as goal
 
 abbrev pub invariant-loop-event : goal.invariant-loop-event

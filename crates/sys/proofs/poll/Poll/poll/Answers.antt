@@ -9,6 +9,6 @@ returns g c =
     let i = c.wait.ensures in
     record {
       is = i;
-      wakeful = polls_wakeful p.entries p.most law.sound p.modifies law.modifying g.C.Clock.reads p.waits law.waiting c.args.timeout _ _ _ _ i;
-      rearmed = polls_rearmed p.entries p.most p.modifies law.modifying g.C.Clock.reads p.waits c.args.timeout _ _ _ _ i;
+      wakeful = polls_wakeful p law.sound law.modifying g.C.Clock law.waiting c.args.timeout _ _ _ _ i;
+      rearmed = polls_rearmed p law.modifying g.C.Clock c.args.timeout _ _ _ _ i;
     }

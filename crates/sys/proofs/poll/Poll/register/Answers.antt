@@ -1,18 +1,17 @@
 use Rattle.std.proofs.Common.{rules}
-use Rattle.token.specs.Key.{key_of}
 use Rattle.token.specs.Refusal.{outcome}
-use Rattle.sys.specs.Polling.{Registers, state_of}
-use Rattle.sys.proofs.Locality.{adds_touch}
-use Rattle.sys.proofs.Plain.{registers_plain, spoken}
+use Rattle.sys.specs.Polling.{Registers, line_for, state_of}
+use Rattle.sys.specs.World.{register_of}
+use Rattle.sys.proofs.Lawful.{registers_by}
+use Rattle.sys.proofs.Locality.{register_touches}
+use Rattle.sys.proofs.Plain.{came_touches, registers_plain}
 use Rattle.sys.proofs.poll.Poll.register.Goals as goal
 
 pub returns : goal.returns
 returns g c =
     let p = g.P.Poller in
-    let law = g.met.P.Poller.adding in
-    let i : Registers p.adds (record { key = key_of c.args.token; file = c.args.file; interest = c.args.interest }) c.args.mode (state_of c.args.self.now) (outcome c.add.result) (state_of c.add.new.self) = search rules in
-    record {
-      is = i;
-      plain = spoken p.adds p.modifies p.deletes g.C.Clock.reads c.args.self.now _ (registers_plain p.entries p.most p.adds p.modifies p.deletes g.C.Clock.reads _ c.args.mode _ _ _ law i);
-      touches = adds_touch p.entries p.most p.adds law _ c.args.mode _ _ _ i;
-    }
+    let line = line_for c.args.file c.args.interest c.args.token in
+    let asked = registers_by _ _ p.adds _ c.args.mode (state_of c.args.self.now) _ (state_of c.send.new.self) c.send.ensures (λ x x' b a h. search rules) in
+    let i : Registers p.adds line c.args.mode (state_of c.args.self.now) (outcome c.send.result) (state_of c.send.new.self) = search (rules, asked) in
+    let came = registers_plain p g.C.Clock line c.args.mode c.args.self.now _ c.send.new.self g.met.P.Poller.adding i in
+    record { is = i; plain = came; touches = came_touches p g.C.Clock (register_of line c.args.mode) c.args.file _ _ _ (register_touches line c.args.mode) came }

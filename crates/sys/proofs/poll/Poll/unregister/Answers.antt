@@ -1,14 +1,10 @@
-use Rattle.sys.proofs.Locality.{unregisters_touch}
-use Rattle.sys.proofs.Plain.{unregisters_plain, spoken}
+use Rattle.sys.specs.World.{unregister_of}
+use Rattle.sys.proofs.Locality.{unregister_touches}
+use Rattle.sys.proofs.Plain.{came_touches, unregisters_plain}
 use Rattle.sys.proofs.poll.Poll.unregister.Goals as goal
 
 pub returns : goal.returns
 returns g c =
     let p = g.P.Poller in
-    let law = g.met.P.Poller.deleting in
-    let i = c.delete.ensures in
-    record {
-      is = i;
-      plain = spoken p.adds p.modifies p.deletes g.C.Clock.reads c.args.self.now _ (unregisters_plain p.entries p.most p.adds p.modifies p.deletes g.C.Clock.reads law c.args.file _ _ _ i);
-      touches = unregisters_touch p.entries p.most p.deletes law c.args.file _ _ _ i;
-    }
+    let came = unregisters_plain p g.C.Clock g.met.P.Poller.deleting c.args.file c.args.self.now _ c.delete.new.self c.delete.ensures in
+    record { is = c.delete.ensures; plain = came; touches = came_touches p g.C.Clock (unregister_of c.args.file) c.args.file _ _ _ (unregister_touches c.args.file) came }

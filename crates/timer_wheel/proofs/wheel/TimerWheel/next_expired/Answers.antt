@@ -1,12 +1,8 @@
-use Rattle.std.proofs.Common.{rules}
 use Rattle.timer_wheel.proofs.Expiry.{exact}
 use Rattle.timer_wheel.proofs.wheel.TimerWheel.next_expired.Goals as goal
 
-pub returns-in_err-entry : goal.returns-in_err-entry
-returns-in_err-entry c = record { is = search rules; exact = exact c.args.instant _ c.args.self.now.rising }
+pub returns-in_err-entry-clause-exact : goal.returns-in_err-entry-clause-exact
+returns-in_err-entry-clause-exact c = exact c.args.instant _ c.args.self.now.rising
 
-pub returns-then-entry-instant : goal.returns-then-entry-instant
-returns-then-entry-instant c = record { is = search rules; exact = exact c.args.instant _ c.args.self.now.rising }
-
-pub returns-else-entry-instant : goal.returns-else-entry-instant
-returns-else-entry-instant c = record { is = search rules; exact = exact c.args.instant _ c.args.self.now.rising }
+pub returns-clause-exact : goal.returns-clause-exact
+returns-clause-exact c = exact c.args.instant _ c.args.self.now.rising

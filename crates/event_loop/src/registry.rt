@@ -1,0 +1,50 @@
+// The registration of a source, with its lifecycle entries.
+use crate::inner::Registry;
+use poller::Poller;
+use sources::EventSource;
+use sys::Clock;
+use token::{Error, Token, TokenFactory};
+
+impl<P: Poller, C: Clock> Registry<P, C> {
+    // The lifecycle entry first, then the registration.
+    pub(crate) fn register<S: EventSource>(
+        &mut self,
+        source: &mut S,
+        token: Token,
+    ) -> Result<(), Error> {
+        if source.needs_hooks() {
+            self.lifecycle.enter(token)?;
+        }
+        let mut factory = TokenFactory::new(token);
+        source.register(&mut self.poll, &mut factory)
+    }
+
+    // Registers anew, and then enters one lifecycle entry more.
+    pub(crate) fn reregister<S: EventSource>(
+        &mut self,
+        source: &mut S,
+        token: Token,
+    ) -> Result<(), Error> {
+        let hooks = source.needs_hooks();
+        if hooks && self.lifecycle.is_full() {
+            return Err(Error::LifecycleFull);
+        }
+        let mut factory = TokenFactory::new(token);
+        source.reregister(&mut self.poll, &mut factory)?;
+        if hooks {
+            self.lifecycle.enter(token)?;
+        }
+        Ok(())
+    }
+
+    // An accepted unregister drops the source's lifecycle entries.
+    pub(crate) fn unregister<S: EventSource>(
+        &mut self,
+        source: &mut S,
+        token: Token,
+    ) -> Result<(), Error> {
+        source.unregister(&mut self.poll)?;
+        self.lifecycle.drop_all(token);
+        Ok(())
+    }
+}
