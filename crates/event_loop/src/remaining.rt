@@ -7,9 +7,5 @@ pub fn remaining(timeout: u64, start: u64, clock: u64) -> Option<u64>
     ensures { result ≡ remaining_of timeout start clock }
 {
     let elapsed = clock.saturating_sub(start);
-    if elapsed < timeout {
-        Some(timeout - elapsed)
-    } else {
-        None
-    }
+    timeout.checked_sub(elapsed).filter(|left| *left > 0)
 }

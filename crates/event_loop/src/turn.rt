@@ -65,7 +65,7 @@ impl<P: Poller, C: Clock> Registry<P, C> {
         }
     }
 
-    // The value in hand goes back to its slot, or is let go where the token fits none any more.
+    // Handed its parts one by one, as `act` is. The value in hand goes back to its slot, or is let go where the token fits none any more.
     // The turn's fate is handed on.
     fn settle<S: EventSource>(
         &mut self,

@@ -117,6 +117,7 @@ impl<H: GenericHandler + Copy> EventSource for Generic<H> {
 
     fn told(&mut self, _errand: Errand, _answer: Result<Reply, Error>) {}
 
+    // No hooks, said call by call: what each may come to is this kind's own.
     fn needs_hooks(&self) -> bool {
         false
     }

@@ -5,6 +5,7 @@ use Rattle.std.proofs.lemmas.List.{flat_map_more, set-get_or}
 use Rattle.std.proofs.lemmas.List.Sums.{sum_by-set, count_by-le-length}
 use Rattle.std.proofs.lemmas.Bool.{true≢false, false≢true, eqb-true, eq-eqb, ne_eqb, cases_eq}
 use Rattle.std.specs.Option.{option_map, option_to_list}
+use Rattle.std.proofs.lemmas.Option.{same_Some}
 use Rattle.poller.specs.declared.entry.Entry.{Entry}
 use Rattle.poller.specs.declared.entry.Event.{Event}
 use Rattle.poller.specs.declared.entry.Mode.{Mode}
@@ -85,9 +86,6 @@ entry_kept fs f un (e ∷ es) =
     at true p q = ap (λ (b : Bool). Some (cond b (reported_once e) e)) (ap (λ (n : ℕ). among n fs) (eqb-true _ _ p) ∙ un)
     at false p q = q
 
-same_some : (i j : ℕ) → ◌≡◌ {A = Option ℕ} (Some i) (Some j) → i ≡ j
-same_some i j e = cc
-
 module _ (es : List Entry) (fs : List ℕ) (cur : List Entry) (vs : List Event) (m : Midst es fs cur vs) (f : ℕ) where
   pub midst_apart : distinct cur ≡ true → distinct es ≡ true
   midst_apart d = sym (distinct_map (told fs) (told_file fs) es) ∙ ap distinct (sym m.entries) ∙ d
@@ -146,7 +144,7 @@ module _ (es : List Entry) (fs : List ℕ) (ms : List Bool) (k : Marks es fs ms)
       same false = refl
 
       lone : (get_or es j x).file ≡ f → j ≡ i
-      lone q = same_some j i (sym (place_at es j x d h) ∙ ap (λ (n : ℕ). place_of n es) q ∙ sym p)
+      lone q = same_Some j i (sym (place_at es j x d h) ∙ ap (λ (n : ℕ). place_of n es) q ∙ sym p)
 
 -- a mark that is not set leaves one to set
 pub marks_count : (ms : List Bool) (i : ℕ) (d : Bool) → i < length ms → slice_index_or ms i d ≡ false → count_by (λ b. b) (slice_set ms i true) ≡ count_by (λ b. b) ms + 1

@@ -28,7 +28,7 @@ pub struct BenchPoller {
     pub(crate) table: Table,
     // the files that are ready, in the order of the script
     pub(crate) ready: Vec<u32>,
-    // what the next calls come to; the plan is handed over whole, so it is no queue
+    // what the next calls come to, in the list that was handed over, which a queue would copy
     pub(crate) steps: Vec<Step>,
 }
 

@@ -107,7 +107,7 @@ fn read_files(heap: Global, text: &[u8]) -> Result<Option<Vec<u32>>, AllocError>
     Ok(None)
 }
 
-// The same for the number of a file, which has 32 bits.
+// A number of at most 32 bits, as a file has, and the text after it.
 fn read_file(text: &[u8]) -> Option<(u32, &[u8])>
     ensures { MatchOption result (NoNumber 32 text.now) (λ p. Number 32 text.now p.0 p.1.now) }
 {

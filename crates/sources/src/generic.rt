@@ -8,6 +8,7 @@ use token::{Error, Token, TokenFactory};
 
 // What is done when the file is ready.
 // No closure: `new` would have to require that it may be called at any event, and a handler is asked nothing.
+// The handler of `generic` is asked more (a copy, errands, laws), so both stand.
 pub trait GenericHandler {
     fn handle(&mut self, readiness: Readiness) -> Result<PostAction, Error>;
 }

@@ -6,7 +6,8 @@ use post_action::PostAction;
 use sys::{Clock, Poll};
 use token::{Error, Token, TokenFactory};
 
-// What is done when the timer rings. No closure, for the reason that `GenericHandler` is none.
+// What is done when the timer rings. No closure: `new` would have to require that it may be called at any deadline.
+// The handler of `timer` is asked more (a copy, errands, laws), so both stand.
 pub trait TimerHandler {
     fn ring(&mut self, deadline: u64) -> TimeoutAction;
 }

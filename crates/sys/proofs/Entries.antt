@@ -2,6 +2,7 @@
 use Rattle.std.proofs.Common.{◌≡◌, ℕ, Bool, true, false, cond, not, eqb, ◌⊎◌, List, [], ◌∷◌, ◌++◌, map, is_some, Some, None, filter, Option, sym, refl, ap, ◌∙◌, inl, inr}
 use Rattle.std.specs.Option.{option_map}
 use Rattle.std.proofs.lemmas.Bool.{true≢false, false≢true, cond-true, cond-false, eq-eqb, ne_eqb, eqb-true}
+use Rattle.poller.proofs.Standing.{changed_none}
 use Rattle.poller.specs.declared.entry.Entry.{Entry}
 use Rattle.poller.specs.declared.entry.Mode.{Mode}
 use Rattle.poller.specs.declared.entry.Mode.TheVariants.{OneShot, Level, Edge}
@@ -48,15 +49,6 @@ module _ (h : Entry → Entry) (keeps : (e : Entry) → (h e).file ≡ e.file) (
           → cond (eqb (cond b (h e) e).file f) (Some (cond b (h e) e)) (entry_of f (changed f h es)) ≡ option_map h (cond b (Some e) (entry_of f es))
       at true q more = cond-true _ _ _ (eq-eqb (h e).file f (keeps e ∙ eqb-true e.file f q))
       at false q more = cond-false _ _ _ q ∙ more
-
-pub changed_none : (h : Entry → Entry) (f : ℕ) (es : List Entry) → holds f es ≡ false → changed f h es ≡ es
-changed_none h f [] n = refl
-changed_none h f (e ∷ es) n = at (eqb e.file f) n (changed_none h f es)
-  where
-    at : (b : Bool) → is_some (cond b (Some e) (entry_of f es)) ≡ false → (holds f es ≡ false → changed f h es ≡ es)
-        → ◌≡◌ {A = List Entry} (cond b (h e) e ∷ changed f h es) (e ∷ es)
-    at true n more = absurd (true≢false n)
-    at false n more = ap (λ (r : List Entry). e ∷ r) (more n)
 
 pub removed_other : (f g : ℕ) → (g ≡ f → ⊥) → (es : List Entry) → entry_of g (removed f es) ≡ entry_of g es
 removed_other f g ne [] = refl
@@ -115,7 +107,7 @@ changed_alike h f (e ∷ es) d arms = at (eqb e.file f) refl (holds e.file es) r
     at b q true n d more = absurd (false≢true d)
     at true q false n d more =
         ap (λ (x : Entry). x ∷ map unarmed (changed f h es)) (arms e (cond-true _ _ _ q))
-        ∙ ap (λ (r : List Entry). unarmed e ∷ map unarmed r) (changed_none h f es (sym (ap (λ (g : ℕ). holds g es) (eqb-true e.file f q)) ∙ n))
+        ∙ ap (λ (r : List Entry). unarmed e ∷ map unarmed r) (changed_none f h es (sym (ap (λ (g : ℕ). holds g es) (eqb-true e.file f q)) ∙ n))
     at false q false n d more =
         ap (λ (r : List Entry). unarmed e ∷ r) (more d (λ x is. arms x (cond-false _ _ _ q ∙ is)))
 

@@ -11,6 +11,7 @@ use Rattle.sys.specs.declared.event.Class.TheVariants.{Polled}
 use Rattle.sys.specs.declared.event.PollEvent.{PollEvent}
 use Rattle.sys.specs.declared.poll.Poll.{Poll}
 
+-- membership by cases, as proofs over a list go; the library's is by index
 abbrev pub In : {X : Type 0} → X → List X → Type 0
 In x [] = ⊥
 In x (y ∷ ys) = (x ≡ y) ⊎ In x ys

@@ -28,7 +28,7 @@ pub enum Error {
 }
 
 impl Error {
-    // The number by which a refusal is told.
+    // The number by which doorbench and the contracts tell a refusal.
     pub fn number(self) -> u8
         ensures { result ≡ number_of self }
     {
@@ -57,7 +57,7 @@ impl Error {
         }
     }
 
-    // The fault's own code, where the refusal carries one.
+    // The fault's own code, where the refusal carries one: a number of the poller's or the source's.
     pub fn code(self) -> Option<u32>
         ensures { result ≡ code_of self }
     {

@@ -16,7 +16,7 @@ pub struct TokenFactory {
 }
 
 impl TokenFactory {
-    // A factory of the slot and version that the token names, with every sub-id left.
+    // A factory of the slot and version that the token names, with every sub-id left. No `From`: the name is calloop's.
     pub fn new(token: Token) -> TokenFactory
         ensures { (result.id ≡ token.id) × (result.version ≡ token.version) × (result.next ≡ 0) }
     {

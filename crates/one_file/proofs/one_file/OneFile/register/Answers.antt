@@ -4,6 +4,7 @@ use Rattle.sys.proofs.Plain.{exchanged_then}
 use Rattle.one_file.specs.Calls.{line_of}
 use Rattle.one_file.proofs.one_file.OneFile.register.Goals as goal
 
+-- the two ends share no record that a lemma could take
 pub returns-in_err-register : goal.returns-in_err-register
 returns-in_err-register g c =
     let p = g.P.Poller in
