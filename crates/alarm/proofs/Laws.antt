@@ -1,20 +1,22 @@
 -- An alarm keeps the rules of source kinds.
-use Rattle.std.proofs.Common.{◌≡◌, ℕ, ◌+◌, ◌^◌, Bool, true, false, cond, List, [], ◌∷◌, Some, None, Option, nat_lt, sym, refl, ap, subst, inl, inr, ◌≤◌, arith}
+use Rattle.std.proofs.Common.{◌≡◌, ℕ, ◌+◌, ◌^◌, List, [], ◌∷◌, Some, None, Option, nat_lt, sym, refl, ap, subst, inl, inr}
+use Rattle.std.proofs.lemmas.Bool.{cond_both}
 use Rattle.std.specs.List.{AllByRecursion}
 use Rattle.token.specs.declared.token.Token.{Token}
+use Rattle.token.specs.Drawing.{next_sub_id}
 use Rattle.token.specs.Key.{key_of}
 use Rattle.token.specs.Refusal.{Outcome, done, refusal}
 use Rattle.post_action.specs.declared.PostAction.{PostAction}
-use Rattle.post_action.specs.declared.PostAction.TheVariants.{Continue, Remove}
+use Rattle.post_action.specs.declared.PostAction.TheVariants.{Continue}
 use Rattle.timer_wheel.specs.Wheel.{Wheel}
 use Rattle.poller.specs.Meaning.{Answer}
 use Rattle.sys.specs.Laws.{In}
 use Rattle.sys.specs.World.{Exchange, World, read, with_timers}
-use Rattle.rules.specs.Calls.{Came, Went, drawn_to}
+use Rattle.rules.specs.Calls.{Came, Went, came, went}
 use Rattle.rules.specs.Kinds.{Faulty, Grown, LettingGo, Processing, Reaches, Reads, Registering, Reregistering, Unregistering}
-use Rattle.rules.specs.Meaning.{Drawer, Drawn, Nothing}
+use Rattle.rules.specs.Meaning.{Drawer, Drawn, Forward, Nothing}
 use Rattle.rules.specs.Timers.{Timers}
-use Rattle.rules.proofs.Drawing.{draw_cases, drawn_key, next_token, none_drawn, steps_on}
+use Rattle.rules.proofs.Drawing.{draw_cases, drawn_key, none_drawn, stays_put, steps_on}
 use Rattle.rules.proofs.Files.{keeps_same}
 use Rattle.rules.proofs.Steps.{reaches_then}
 use Rattle.rules.proofs.Timers.{cancel_timers, insert_cases, insert_timers, reuse_cases, reuse_timers, timers_fewer, timers_same}
@@ -22,7 +24,7 @@ use Rattle.alarm.specs.declared.alarm.Alarm.{Alarm}
 use Rattle.alarm.specs.declared.alarm.Registration.{Registration}
 use Rattle.alarm.specs.declared.alarm.TimeoutAction.{TimeoutAction}
 use Rattle.alarm.specs.declared.alarm.TimeoutAction.TheVariants.{Drop, ToInstant, ToDuration}
-use Rattle.alarm.specs.Calls.{Awaits, Rang, cancel_by, counters_of, drawn, inserted, meaning, rang, register_by, reregister_by, rung_by, set_at, set_to, wheel_after, with_deadline, with_registration}
+use Rattle.alarm.specs.Calls.{Awaits, cancel_by, counters_of, drawn, inserted, meaning, register_by, reregister_by, rung_by, set_at, set_to, wheel_after, with_deadline, with_registration}
 
 -- only the timers changed
 alarm_reaches : (D : ℕ → Type 0) (s s' : Alarm) (w : World) (t' : Wheel) → Timers D (counters_of s.registration) w.wheel (counters_of s'.registration) t'
@@ -46,26 +48,25 @@ module _ (s : Alarm) where
   Fine w d c = Registering (meaning s) w d c.exchanges c.answer (meaning c.source) c.world c.drawer
 
   -- nothing is entered
-  unregistered : (w : World) (d : Drawer) (n : ℕ) (r : Answer) → d.next ≤ n
-      → Fine w d (record { answer = r; source = with_registration s None; world = w; drawer = drawn_to d n; exchanges = [] })
-  unregistered w d n r l = record { reaches = forgets _ w; draws = record { id = refl; version = refl; next = l }; drew = λ j m. elim m [ ]; refusing = λ m b e. record { held = refl; entered = refl } }
+  unregistered : (w : World) (d d' : Drawer) (r : Answer) → Forward d d' → Fine w d (came [] r (with_registration s None) w d')
+  unregistered w d d' r f = record { reaches = forgets _ w; draws = f; drew = λ j m. elim m [ ]; refusing = λ m b e. record { held = refl; entered = refl } }
 
-  enters : (w : World) (d : Drawer) (deadline : ℕ) → Fine w d (drawn s deadline (done (next_token d)) w (drawn_to d (d.next + 1)))
+  enters : (w : World) (d : Drawer) (deadline : ℕ) → Fine w d (drawn s deadline (done d) w (next_sub_id d))
   enters w d deadline =
-      let D = Drawn d (drawn_to d (d.next + 1)) in
-      insert_cases deadline (next_token d) w.wheel (λ o t. Fine w d (inserted s (next_token d) w (drawn_to d (d.next + 1)) o t))
-      (unregistered w d (d.next + 1) (refusal 16) (omega arith))
-      (unregistered w d (d.next + 1) (refusal 17) (omega arith))
+      let D = Drawn d (next_sub_id d) in
+      insert_cases deadline d w.wheel (λ o t. Fine w d (inserted s d w (next_sub_id d) o t))
+      (unregistered w d (next_sub_id d) (refusal 16) (steps_on d))
+      (unregistered w d (next_sub_id d) (refusal 17) (steps_on d))
       (record {
-        reaches = alarm_reaches D s (with_registration s (Some (record { token = next_token d; counter = w.wheel.next }))) w _ (insert_timers D _ deadline (next_token d) w.wheel (drawn_key d));
-        draws = steps_on d 1;
+        reaches = alarm_reaches D s (with_registration s (Some (record { token = d; counter = w.wheel.next }))) w _ (insert_timers D _ deadline d w.wheel (drawn_key d));
+        draws = steps_on d;
         drew = λ k m. elim m [ inl e ↦ subst D (sym e) (drawn_key d) | inr q ↦ elim q [ ] ];
         refusing = λ n c e. record { held = refl; entered = refl };
       })
 
   registering : (w : World) (d : Drawer) (deadline : Option ℕ) → Fine w d (register_by s deadline w d)
-  registering w d None = unregistered w d d.next (done tt) (omega arith)
-  registering w d (Some deadline) = draw_cases d (λ o n. Fine w d (drawn s deadline o w (drawn_to d n))) (enters w d deadline) (unregistered w d d.next (refusal 8) (omega arith))
+  registering w d None = unregistered w d d (done tt) (stays_put d)
+  registering w d (Some deadline) = draw_cases d (λ o d'. Fine w d (drawn s deadline o w d')) (enters w d deadline) (unregistered w d d (refusal 8) (stays_put d))
 
   pub registers_lawful : (w : World) (d : Drawer) (c : Came Alarm) → c ≡ register_by s s.deadline w d → Fine w d c
   registers_lawful w d c e = subst (Fine w d) (sym e) (registering w d s.deadline)
@@ -79,14 +80,14 @@ module _ (s : Alarm) where
   cancel_reaches : (w : World) → Reaches Nothing (meaning s) w [] (meaning (with_registration s None)) (cancel_by s w).world
   cancel_reaches w = alarm_reaches Nothing s (with_registration s None) w _ (cancels s.registration w.wheel)
 
-  pub unregisters_lawful : (w : World) (c : Went Alarm) → c ≡ cancel_by s w → Unregistering (meaning s) w c.exchanges c.answer (meaning c.source) c.world
+  pub unregisters_lawful : (w : World) (c : Went (Unit {0}) Alarm) → c ≡ cancel_by s w → Unregistering (meaning s) w c.exchanges c.answer (meaning c.source) c.world
   unregisters_lawful w c e =
-      subst (λ (x : Went Alarm). Unregistering (meaning s) w x.exchanges x.answer (meaning x.source) x.world) (sym e)
+      subst (λ (x : Went (Unit {0}) Alarm). Unregistering (meaning s) w x.exchanges x.answer (meaning x.source) x.world) (sym e)
       (record { reaches = cancel_reaches w; drew = λ k m. elim m [ ]; accepting = λ e. refl })
 
-  pub leaves_lawful : (w : World) (c : Went Alarm) → c ≡ cancel_by s w → LettingGo (meaning s) w c.exchanges (meaning c.source) c.world
+  pub leaves_lawful : (w : World) (c : Went (Unit {0}) Alarm) → c ≡ cancel_by s w → LettingGo (meaning s) w c.exchanges (meaning c.source) c.world
   leaves_lawful w c e =
-      subst (λ (x : Went Alarm). LettingGo (meaning s) w x.exchanges (meaning x.source) x.world) (sym e)
+      subst (λ (x : Went (Unit {0}) Alarm). LettingGo (meaning s) w x.exchanges (meaning x.source) x.world) (sym e)
       (record { reaches = cancel_reaches w; drew = λ k m. elim m [ ]; free = record { held = refl; entered = refl } })
 
 -- cancelled, then registered
@@ -108,14 +109,14 @@ reregisters_lawful s w d c e =
 
 -- what the handler asked for stands behind what stood before
 module _ {E : Type 0} (s : Alarm) (t : Token) (es es' : List E) (w : World) (grown : Grown es es') where
-  abbrev Rings : Rang Alarm → Type 0
+  abbrev Rings : Went PostAction Alarm → Type 0
   Rings c = Processing (meaning s) w t es c.exchanges c.answer (meaning c.source) c.world es'
 
   abbrev Event : ℕ → Type 0
   Event k = k ≡ key_of t
 
   -- the wheel stays
-  stays : (deadline : Option ℕ) (r : Outcome PostAction) (xs : List Exchange) → Faulty r → AllByRecursion Reads xs → Rings (rang xs r (with_deadline s deadline) w)
+  stays : (deadline : Option ℕ) (r : Outcome PostAction) (xs : List Exchange) → Faulty r → AllByRecursion Reads xs → Rings (went xs r (with_deadline s deadline) w)
   stays deadline r xs f a = record { world = refl; asks = a; same = refl; timers = timers_same Event _ w.wheel w.wheel refl; errands = grown; faults = f }
 
   sets : (x : Registration) (d next : ℕ) (xs : List Exchange) → Awaits s t x d → AllByRecursion Reads xs → Rings (set_at s x next w xs)
@@ -135,16 +136,13 @@ module _ {E : Type 0} (s : Alarm) (t : Token) (es es' : List E) (w : World) (gro
   rings_on : (x : Registration) (d : ℕ) (action : TimeoutAction) (now : ℕ) → Awaits s t x d → Rings (rung_by s x action now w)
   rings_on x d Drop now own = stays s.deadline _ [] tt tt
   rings_on x d (ToInstant next) now own = sets x d next [] own tt
-  rings_on x d (ToDuration period) now own = at (nat_lt (now + period) (2 ^ 64))
-    where
-      at : (b : Bool) → Rings (cond b (set_at s x (now + period) w (read now ∷ [])) (rang (read now ∷ []) (done Remove) (with_deadline s None) w))
-      at true = sets x d (now + period) (read now ∷ []) own (tt, tt)
-      at false = stays None _ (read now ∷ []) tt (tt, tt)
+  rings_on x d (ToDuration period) now own =
+      cond_both (nat_lt (now + period) (2 ^ 64)) _ _ Rings (λ e. sets x d (now + period) (read now ∷ []) own (tt, tt)) (λ e. stays None _ (read now ∷ []) tt (tt, tt))
 
   -- its own event
-  pub rings_lawful : (x : Registration) (d : ℕ) (action : TimeoutAction) (now : ℕ) (c : Rang Alarm) → Awaits s t x d → c ≡ rung_by s x action now w → Rings c
+  pub rings_lawful : (x : Registration) (d : ℕ) (action : TimeoutAction) (now : ℕ) (c : Went PostAction Alarm) → Awaits s t x d → c ≡ rung_by s x action now w → Rings c
   rings_lawful x d action now c own e = subst Rings (sym e) (rings_on x d action now own)
 
   -- any other
-  pub stays_lawful : (c : Rang Alarm) → c ≡ rang [] (done Continue) s w → Rings c
+  pub stays_lawful : (c : Went PostAction Alarm) → c ≡ went [] (done Continue) s w → Rings c
   stays_lawful c e = subst Rings (sym e) (stays s.deadline _ [] tt tt)

@@ -1,7 +1,6 @@
 // A deadline of a source, and its calls.
-ghost use Rattle.alarm.specs.Calls.{Due, cancel_by, rang, register_by, reregister_by, rung_by, set_at};
+ghost use Rattle.alarm.specs.Calls.{Due, cancel_by, register_by, reregister_by, rung_by, set_at};
 ghost use Rattle.rules.specs.Calls.{came, went};
-ghost use Rattle.rules.specs.Meaning.{drawer_of};
 ghost use Rattle.std.specs.Prelude.{◌≡◌, ℕ, [], Some, None};
 ghost use Rattle.sys.specs.World.{Between, Exchanged, world_of};
 ghost use Rattle.token.specs.Refusal.{done, outcome};
@@ -52,7 +51,7 @@ impl Alarm {
         poll: &mut Poll<P, C>,
         factory: &mut TokenFactory,
     ) -> Result<(), Error>
-        ensures { Between P.Poller C.Clock poll.old poll.new (λ w xs w'. came xs (outcome result) self.new w' (drawer_of factory.new) ≡ register_by self.old self.old.deadline w (drawer_of factory.old)) }
+        ensures { Between P.Poller C.Clock poll.old poll.new (λ w xs w'. came xs (outcome result) self.new w' factory.new ≡ register_by self.old self.old.deadline w factory.old) }
     {
         self.registration = None;
         let Some(deadline) = self.deadline else {
@@ -70,7 +69,7 @@ impl Alarm {
         poll: &mut Poll<P, C>,
         factory: &mut TokenFactory,
     ) -> Result<(), Error>
-        ensures { Between P.Poller C.Clock poll.old poll.new (λ w xs w'. came xs (outcome result) self.new w' (drawer_of factory.new) ≡ reregister_by self.old w (drawer_of factory.old)) }
+        ensures { Between P.Poller C.Clock poll.old poll.new (λ w xs w'. came xs (outcome result) self.new w' factory.new ≡ reregister_by self.old w factory.old) }
     {
         self.cancel(poll);
         self.register(poll, factory)
@@ -101,7 +100,7 @@ impl Alarm {
         registration: Registration,
         action: TimeoutAction,
     ) -> Result<PostAction, Error>
-        ensures { Between P.Poller C.Clock poll.old poll.new (λ w xs w'. (now : ℕ) × (rang xs (outcome result) self.new w' ≡ rung_by self.old registration action now w)) }
+        ensures { Between P.Poller C.Clock poll.old poll.new (λ w xs w'. (now : ℕ) × (went xs (outcome result) self.new w' ≡ rung_by self.old registration action now w)) }
     {
         match action {
             TimeoutAction::Drop => Ok(PostAction::Remove),
@@ -123,7 +122,7 @@ impl Alarm {
         registration: Registration,
         next: u64,
     ) -> Result<PostAction, Error>
-        ensures is { rang [] (outcome result) self.new (world_of P.Poller poll.new) ≡ set_at self.old registration next (world_of P.Poller poll.old) [] }
+        ensures is { went [] (outcome result) self.new (world_of P.Poller poll.new) ≡ set_at self.old registration next (world_of P.Poller poll.old) [] }
         ensures exchanged { Exchanged P.Poller C.Clock [] poll.old poll.new }
     {
         poll.reuse_timer(registration.counter, next, registration.token)?;

@@ -1,4 +1,4 @@
--- The two tokens of a Doorbell are drawn as tickets are.
+-- The two tokens of a Doorbell are drawn as tickets are: the law of their impl, by a name that is not generated.
 use Rattle.std.proofs.Common.{rules}
 use Rattle.rules.specs.Meaning.{Drawer}
 use Rattle.one_file.specs.Tickets.{DrawnFrom}

@@ -12,12 +12,12 @@ with_second a (done b) = done (record { first = a; second = b })
 with_second a (refused n c) = refused n c
 
 -- the second is drawn only if the first was
-abbrev pub then_second : Drawer → Outcome Token → ℕ → Outcome Tokens × ℕ
-then_second d (done a) n = (with_second a (draw_of d.id d.version n).0, (draw_of d.id d.version n).1)
-then_second d (refused k c) n = (refused k c, n)
+abbrev pub then_second : Outcome Token → Drawer → Outcome Tokens × Drawer
+then_second (done a) d = (with_second a (draw_of d).0, (draw_of d).1)
+then_second (refused n c) d = (refused n c, d)
 
-abbrev pub draw_two : Drawer → Outcome Tokens × ℕ
-draw_two d = then_second d (draw_of d.id d.version d.next).0 (draw_of d.id d.version d.next).1
+abbrev pub draw_two : Drawer → Outcome Tokens × Drawer
+draw_two d = then_second (draw_of d).0 (draw_of d).1
 
 abbrev pub first_token : Tokens → Token
 first_token t = t.first

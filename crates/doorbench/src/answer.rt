@@ -66,11 +66,11 @@ fn write_dispatch(
     ensures { IfOk result (λ _. string_bytes out.new ≡ string_bytes out.old ++ dispatch_text answer lines.now) }
 {
     write_sheet(lines, out)?;
-    let Err(error) = answer else {
-        return Ok(());
-    };
-    out.push_str(" ")?;
-    write_refusal(error, out)
+    if let Err(error) = answer {
+        out.push_str(" ")?;
+        write_refusal(error, out)?;
+    }
+    Ok(())
 }
 
 fn write_sheet(lines: &[Line], out: &mut String) -> Result<(), AllocError>

@@ -18,7 +18,7 @@ impl GenericHandler for Fixed {
     }
 }
 
-// Rings again after a period, or never where it is 0.
+// Rings again after a period, or never where it is 0, as the script says it.
 #[derive(Clone, Copy)]
 pub struct Repeat {
     pub period: u64,

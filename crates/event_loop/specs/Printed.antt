@@ -1,10 +1,16 @@
--- The lines of a sheet, as printed.
+-- The lines of a sheet, and how they are printed.
 use Rattle.std.specs.Prelude.{ℕ, List, ◌++◌, codes}
 use Rattle.std.specs.Fmt.{decimal}
+use Rattle.token.specs.Key.{key_of}
 use Rattle.sys.specs.Event.{letter_of}
+use Rattle.sys.specs.declared.event.PollEvent.{PollEvent}
 use Rattle.event_loop.specs.declared.sheet.Verdict.{Verdict}
 use Rattle.event_loop.specs.declared.sheet.Verdict.TheVariants.{Delivered, Stale, Lost}
 use Rattle.event_loop.specs.declared.sheet.Line.{Line}
+
+-- the line of an event
+abbrev pub line_of : Verdict → PollEvent → Line
+line_of v e = record { class = e.class; key = key_of e.token; verdict = v }
 
 abbrev pub verdict_letter : Verdict → List ℕ
 verdict_letter Delivered = codes "d"

@@ -35,18 +35,14 @@ impl<P: Poller, C: Clock, S: EventSource> LoopInner<P, C, S> {
                 error: Error::NoSlot,
             });
         };
-        match self.registry.register(&mut source, token) {
-            Ok(()) => {
-                self.sources.fill(token.id as usize, source);
-                Ok(token)
-            }
-            Err(error) => {
-                self.registry.lifecycle.drop_all(token);
-                Err(InsertError {
-                    inserted: source,
-                    error,
-                })
-            }
+        if let Err(error) = self.registry.register(&mut source, token) {
+            self.registry.lifecycle.drop_all(token);
+            return Err(InsertError {
+                inserted: source,
+                error,
+            });
         }
+        self.sources.fill(token.id as usize, source);
+        Ok(token)
     }
 }

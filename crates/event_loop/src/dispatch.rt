@@ -1,7 +1,9 @@
 // The user's calls; a dispatch is hooks, a wait, and a turn for each event.
-ghost use Rattle.std.specs.Prelude.{◌≡◌, ◌+◌, ◌≤◌, length, vec_len};
+ghost use Rattle.std.specs.Prelude.{◌≡◌, ◌+◌, ◌≤◌, ◌++◌, length, map, vec_len};
+ghost use Rattle.event_loop.specs.Printed.{line_of};
+ghost use Rattle.event_loop.specs.declared.sheet.Verdict.TheVariants.{Lost};
 
-use crate::inner::{InsertError, LoopInner, Registry};
+use crate::inner::{InsertError, LoopInner};
 use crate::sheet::{Line, Sheet, Verdict};
 use crate::state::EventLoop;
 use crate::wait::wait;
@@ -10,47 +12,36 @@ use list::{Place, Slot};
 use poller::Poller;
 use sources::EventSource;
 use std::alloc::{AllocError, Global};
-use sys::{Clock, Environment, Poll, PollEvent, PollEvents};
+use sys::{Clock, Environment, PollEvent, PollEvents};
 use token::{Error, Token};
 
 impl<P: Poller, C: Clock, S: EventSource> LoopInner<P, C, S> {
-    // Gives each event its turn and its line; after a fault the events are lost.
-    fn turns(
-        &mut self,
-        events: &[PollEvent],
-        sheet: &mut Sheet,
-        mut fate: Result<(), Error>,
-    ) -> Result<(), Error>
+    // Gives each event its turn and its line. At a fault the later events are lost.
+    fn turns(&mut self, events: &[PollEvent], sheet: &mut Sheet) -> Result<(), Error>
         requires { vec_len sheet.old.items + length events.now ≤ 640 }
         ensures { vec_len sheet.new.items ≡ vec_len sheet.old.items + length events.now }
     {
-        for event in events {
-            let verdict = match fate {
-                Ok(()) => self.turn(*event).unwrap_or_else(|error| {
-                    fate = Err(error);
-                    Verdict::Delivered
-                }),
-                Err(_) => Verdict::Lost,
-            };
-            sheet.items.push_reserved(Line {
-                class: event.class,
-                key: u64::from(event.token),
-                verdict,
-            });
+        for (i, &event) in events.iter().enumerate() {
+            let turn = self.turn(event);
+            // a source whose turn failed was called
+            let verdict = turn.unwrap_or(Verdict::Delivered);
+            sheet.items.push_reserved(Line::new(event, verdict));
+            if let Err(error) = turn {
+                lose(&events[i + 1..], sheet);
+                return Err(error);
+            }
         }
-        fate
+        Ok(())
     }
 }
 
-// Lets the slot's source go, if it has one.
-fn end_slot<P: Poller, C: Clock, S: EventSource>(slot: Slot<S>, poll: &mut Poll<P, C>) {
-    let Slot { version: _, place } = slot;
-    match place {
-        Place::Occupied(mut source) => {
-            source.let_go(poll);
-            source.end();
-        }
-        Place::Empty | Place::Handled => {}
+// Notes events whose turn never comes. What is answered then is said where the fault arose.
+fn lose(events: &[PollEvent], sheet: &mut Sheet)
+    requires { vec_len sheet.old.items + length events.now ≤ 640 }
+    ensures { sheet.new.items.items ≡ sheet.old.items.items ++ map (line_of Lost) events.now }
+{
+    for &event in events {
+        sheet.items.push_reserved(Line::new(event, Verdict::Lost));
     }
 }
 
@@ -86,16 +77,18 @@ impl<P: Poller, C: Clock, S: EventSource> EventLoop<P, C, S> {
             sheet: _,
         } = self;
         let LoopInner {
-            registry,
+            mut registry,
             mut sources,
             pending_action: _,
         } = inner;
-        let Registry {
-            mut poll,
-            lifecycle: _,
-        } = registry;
-        while let Some(slot) = sources.take_last() {
-            end_slot(slot, &mut poll);
+        while let Some(Slot { version: _, place }) = sources.take_last() {
+            match place {
+                Place::Occupied(mut source) => {
+                    source.let_go(&mut registry.poll);
+                    source.end();
+                }
+                Place::Empty | Place::Handled => {}
+            }
         }
         sources.end();
     }
@@ -111,27 +104,26 @@ impl<P: Poller, C: Clock, S: EventSource> EventLoop<P, C, S> {
 
     // Hands the events of one wait to their sources. The sheet says what became of each.
     pub fn dispatch(&mut self, timeout: Option<u64>) -> Result<(), Error> {
-        self.sheet.items.clear();
-        self.dispatch_events(timeout)
-    }
-
-    fn dispatch_events(&mut self, timeout: Option<u64>) -> Result<(), Error>
-        requires { vec_len self.old.sheet.items ≡ 0 }
-    {
-        let start = self.inner.registry.poll.now();
-        self.inner.before_sleep(&mut self.synthetic_events)?;
-        let timeout = if self.synthetic_events.items.is_empty() {
+        let EventLoop {
+            inner,
+            synthetic_events,
+            events,
+            sheet,
+        } = self;
+        sheet.items.clear();
+        let start = inner.registry.poll.now();
+        inner.before_sleep(synthetic_events)?;
+        let timeout = if synthetic_events.items.is_empty() {
             timeout
         } else {
             Some(0)
         };
-        let poll = &mut self.inner.registry.poll;
-        match wait(poll, timeout, start, &mut self.events) {
+        match wait(&mut inner.registry.poll, timeout, start, events) {
             None => Ok(()),
             Some(Ok(())) => self.handle_events(),
             Some(Err(error)) => {
-                self.inner
-                    .turns(self.events.items.as_slice(), &mut self.sheet, Err(error))
+                lose(events.items.as_slice(), sheet);
+                Err(error)
             }
         }
     }
@@ -148,8 +140,12 @@ impl<P: Poller, C: Clock, S: EventSource> EventLoop<P, C, S> {
             sheet,
         } = self;
         inner.before_handle_events(events.items.as_slice());
-        let fate = inner.turns(synthetic_events.items.as_slice(), sheet, Ok(()));
+        let answer = inner.turns(synthetic_events.items.as_slice(), sheet);
         synthetic_events.items.clear();
-        inner.turns(events.items.as_slice(), sheet, fate)
+        if let Err(error) = answer {
+            lose(events.items.as_slice(), sheet);
+            return Err(error);
+        }
+        inner.turns(events.items.as_slice(), sheet)
     }
 }

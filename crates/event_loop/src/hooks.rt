@@ -9,19 +9,16 @@ use sources::EventSource;
 use sys::{Class, Clock, PollEvent};
 use token::{Error, Token};
 
+// Each loop states `Calm` in an invariant of its own: an invariant is over the variables of its function.
 impl<P: Poller, C: Clock, S: EventSource> LoopInner<P, C, S> {
     // Queues what the hooks answer. An event that found no wait yet stays in front.
     pub fn before_sleep(&mut self, queue: &mut Bounded<PollEvent, 128>) -> Result<(), Error> {
-        let LoopInner {
-            registry,
-            sources,
-            ..
-        } = self;
-        for token in registry.lifecycle.as_slice() {
+        let sources = &mut self.sources;
+        for &token in self.registry.lifecycle.as_slice() {
             if queue.is_full() {
                 return Err(Error::SyntheticFull);
             }
-            let answer = ask(sources, *token, |source| source.before_sleep()).transpose()?;
+            let answer = ask(sources, token, |source| source.before_sleep()).transpose()?;
             if let Some((readiness, token)) = answer.flatten() {
                 queue.items.push_reserved(PollEvent {
                     class: Class::Synthetic,
@@ -35,16 +32,12 @@ impl<P: Poller, C: Clock, S: EventSource> LoopInner<P, C, S> {
 
     // Shows the source of each lifecycle entry what the wait brought.
     pub fn before_handle_events(&mut self, events: &[PollEvent]) {
-        let LoopInner {
-            registry,
-            sources,
-            ..
-        } = self;
-        for token in registry.lifecycle.as_slice() {
+        let sources = &mut self.sources;
+        for &token in self.registry.lifecycle.as_slice() {
             ask(
                 sources,
-                *token,
-                |source| source.before_handle_events(*token, events),
+                token,
+                |source| source.before_handle_events(token, events),
             );
         }
     }

@@ -16,6 +16,7 @@ pub struct LoopInner<P, C, S> {
 }
 
 // What a registration enters.
+#[derive(Drop)]
 pub(crate) struct Registry<P, C> {
     pub(crate) poll: Poll<P, C>,
     pub(crate) lifecycle: Lifecycle,

@@ -15,8 +15,7 @@ impl<P: Poller, C: Clock> Registry<P, C> {
         if source.needs_hooks() {
             self.lifecycle.enter(token)?;
         }
-        let mut factory = TokenFactory::new(token);
-        source.register(&mut self.poll, &mut factory)
+        source.register(&mut self.poll, &mut TokenFactory::new(token))
     }
 
     // Registers anew, and then enters one lifecycle entry more.
@@ -29,8 +28,7 @@ impl<P: Poller, C: Clock> Registry<P, C> {
         if hooks && self.lifecycle.is_full() {
             return Err(Error::LifecycleFull);
         }
-        let mut factory = TokenFactory::new(token);
-        source.reregister(&mut self.poll, &mut factory)?;
+        source.reregister(&mut self.poll, &mut TokenFactory::new(token))?;
         if hooks {
             self.lifecycle.enter(token)?;
         }

@@ -1,10 +1,10 @@
 // What became of each event of a dispatch.
-ghost use Rattle.std.specs.Prelude.{Some};
-ghost use Rattle.event_loop.specs.Printed.{line_text, verdict_letter};
+ghost use Rattle.std.specs.Prelude.{◌≡◌, Some};
+ghost use Rattle.event_loop.specs.Printed.{line_of, line_text, verdict_letter};
 
 use bounded::Bounded;
 use std::fmt;
-use sys::Class;
+use sys::{Class, PollEvent};
 
 #[derive(Clone, Copy, PartialEq, Eq, Debug)]
 pub enum Verdict {
@@ -33,6 +33,18 @@ pub struct Line {
     pub class: Class,
     pub key: u64,
     pub verdict: Verdict,
+}
+
+impl Line {
+    pub(crate) fn new(event: PollEvent, verdict: Verdict) -> Line
+        ensures { result ≡ line_of verdict event }
+    {
+        Line {
+            class: event.class,
+            key: u64::from(event.token),
+            verdict,
+        }
+    }
 }
 
 impl fmt::Display for Line {

@@ -27,21 +27,17 @@ impl<P: Poller, C: Clock, S: EventSource> LoopInner<P, C, S> {
         let mut source = sources.take_out(i);
         let answer = source.process_events(&mut registry.poll, event.readiness, event.token);
         let pending = mem::replace(pending_action, PostAction::Continue);
-        let fate = match answer {
-            Ok(action) => registry.act(decide(action, pending), &mut source, token, sources),
-            Err(error) => {
-                let _ = registry.act(pending, &mut source, token, sources);
-                Err(error)
-            }
-        };
-        registry.settle(source, token, sources, fate)?;
+        let action = answer.map_or(pending, |answered| decide(answered, pending));
+        let acted = registry.act(action, &mut source, token, sources);
+        // the source's own fault goes before that of the action
+        registry.settle(source, token, sources, answer.and(acted))?;
         Ok(Verdict::Delivered)
     }
 }
 
 impl<P: Poller, C: Clock> Registry<P, C> {
-    // What the source answered, or was asked for it, is done on the value in hand. The slots come beside it and not in
-    // one struct, since the turn needs them between the two calls.
+    // What the source answered, or was asked for it, is done on the value in hand. Value, token and slots are handed over
+    // one by one, here and in `settle`: a struct of them would borrow the slots, and be made for these two calls alone.
     fn act<S: EventSource>(
         &mut self,
         action: PostAction,
@@ -65,7 +61,7 @@ impl<P: Poller, C: Clock> Registry<P, C> {
         }
     }
 
-    // Handed its parts one by one, as `act` is. The value in hand goes back to its slot, or is let go where the token fits none any more.
+    // The value in hand goes back to its slot, or is let go where the token fits none any more.
     // The turn's fate is handed on.
     fn settle<S: EventSource>(
         &mut self,

@@ -1,10 +1,10 @@
 // What a source kind is. Its calls work over any poller and any clock.
-ghost use Rattle.std.specs.Prelude.{◌≡◌, ℕ, List, Option};
+ghost use Rattle.std.specs.Prelude.{◌≡◌, List, Option};
 ghost use Rattle.poller.specs.Meaning.{Answer};
 ghost use Rattle.poller.specs.declared.entry.Readiness.{Readiness};
 ghost use Rattle.post_action.specs.declared.PostAction.{PostAction};
 ghost use Rattle.rules.specs.Kinds.{LettingGo, Processing, Registering, Reregistering, Unregistering, Wakes};
-ghost use Rattle.rules.specs.Meaning.{Drawer, Meaning, drawer_of};
+ghost use Rattle.rules.specs.Meaning.{Drawer, Meaning};
 ghost use Rattle.kinds.specs.Events.{of_source};
 ghost use Rattle.kinds.specs.declared.errand.Errand.{Errand};
 ghost use Rattle.kinds.specs.declared.errand.Reply.{Reply};
@@ -49,14 +49,14 @@ pub trait EventSource {
         poll: &mut Poll<P, C>,
         factory: &mut TokenFactory,
     ) -> Result<(), Error>
-        ensures { Between P.Poller C.Clock poll.old poll.new (λ w xs w'. registers self.old w (drawer_of factory.old) xs (outcome result) self.new w' (drawer_of factory.new)) };
+        ensures { Between P.Poller C.Clock poll.old poll.new (λ w xs w'. registers self.old w factory.old xs (outcome result) self.new w' factory.new) };
 
     fn reregister<P: Poller, C: Clock>(
         &mut self,
         poll: &mut Poll<P, C>,
         factory: &mut TokenFactory,
     ) -> Result<(), Error>
-        ensures { Between P.Poller C.Clock poll.old poll.new (λ w xs w'. reregisters self.old w (drawer_of factory.old) xs (outcome result) self.new w' (drawer_of factory.new)) };
+        ensures { Between P.Poller C.Clock poll.old poll.new (λ w xs w'. reregisters self.old w factory.old xs (outcome result) self.new w' factory.new) };
 
     fn unregister<P: Poller, C: Clock>(&mut self, poll: &mut Poll<P, C>) -> Result<(), Error>
         ensures { Between P.Poller C.Clock poll.old poll.new (λ w xs w'. unregisters self.old w xs (outcome result) self.new w') };

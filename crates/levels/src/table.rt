@@ -69,6 +69,7 @@ impl Levels {
     }
 
     // The lines of the file and the key go, and the key stands for the file if the mode is Level.
+    #[tactic(auto, using(crate::proofs::Rooms::room))]
     pub fn enter(&mut self, line: Line, mode: Mode)
         requires { mode ≡ Level → full_for line.key self.old ≡ false }
         ensures { self.new ≡ entered line mode self.old }

@@ -1,5 +1,5 @@
 // The slots, and what stands in each. Only `new` allocates.
-ghost use Rattle.std.specs.Prelude.{◌≡◌, ◌<◌, ◌≤◌, not, [], ◌++◌, length, IfOk, MatchOption};
+ghost use Rattle.std.specs.Prelude.{◌≡◌, ◌<◌, ◌≤◌, not, [], ◌++◌, length, IfOk, IfSome, MatchOption};
 ghost use Rattle.std.specs.Fn.{FnOnceReturnsAtMut};
 ghost use Rattle.std.specs.List.{position};
 ghost use Rattle.std.specs.Option.{option_to_list};
@@ -51,7 +51,7 @@ impl<S> Place<S> {
 
 impl<S> SourceList<S> {
     ghost use Rattle.list.specs.declared.slots.Place.TheVariants.{Empty, Occupied, Handled};
-    ghost use Rattle.list.specs.Slots.{Filled, fitting, occupied, placed, slot_at, vacant_of};
+    ghost use Rattle.list.specs.Slots.{NoSourceAt, SourceAt, fitting, occupied, placed, slot_at, vacant_of};
 
     pub fn new(heap: Global) -> Result<SourceList<S>, AllocError>
         ensures { IfOk result (λ l. l ≡ []) }
@@ -61,8 +61,10 @@ impl<S> SourceList<S> {
     }
 
     // The lowest empty slot in use.
+    #[tactic(auto, using(crate::proofs::Walks::empty_at))]
     fn first_empty(&self) -> Option<usize>
-        ensures { result ≡ position (λ x. not (occupied x.place)) self.now }
+        ensures is { result ≡ position (λ x. not (occupied x.place)) self.now }
+        ensures empty { IfSome result (λ i. (slot_at self.now i).place ≡ Empty) }
     {
         self.slots
             .items
@@ -72,20 +74,25 @@ impl<S> SourceList<S> {
 
     // Gives out the lowest empty slot in use at its next version, else the next unused one.
     pub fn vacant_entry(&mut self) -> Option<Token>
-        ensures { (result, self.new) ≡ vacant_of self.old }
+        ensures is { (result, self.new) ≡ vacant_of self.old }
+        ensures free { IfSome result (λ t. NoSourceAt self.new t.id) }
     {
-        let i = self.first_empty().unwrap_or(self.slots.items.len());
-        let version = if let Some(slot) = self.slots.items.get_mut(i) {
-            slot.version = slot.version.wrapping_add(1);
-            slot.version
-        } else if self.slots.is_full() {
-            return None;
-        } else {
-            self.slots.items.push_reserved(Slot {
-                version: 0,
-                place: Place::Empty,
-            });
-            0
+        let (i, version) = match self.first_empty() {
+            Some(i) => {
+                let slot = &mut self.slots.items[i];
+                // as `Token::increment_version` does; a slot keeps its version alone, since its place is its id
+                slot.version = slot.version.wrapping_add(1);
+                (i, slot.version)
+            }
+            None if self.slots.is_full() => return None,
+            None => {
+                let unused = self.slots.items.len();
+                self.slots.items.push_reserved(Slot {
+                    version: 0,
+                    place: Place::Empty,
+                });
+                (unused, 0)
+            }
         };
         Some(Token {
             id: i as u32,
@@ -115,22 +122,19 @@ impl<S> SourceList<S> {
 
     // Takes the source out of its slot, which is then marked as handled.
     pub fn take_out(&mut self, i: usize) -> S
-        requires within { i < length self.old }
-        requires there { Filled (slot_at self.old i).place }
+        requires { SourceAt self.old i }
         ensures was { (slot_at self.old i).place ≡ Occupied result }
         ensures after { self.new ≡ placed self.old i Handled }
     {
         match self.exchange(i, Place::Handled) {
             Place::Occupied(source) => source,
-            Place::Empty => unreachable(),
-            Place::Handled => unreachable(),
+            Place::Empty | Place::Handled => unreachable(),
         }
     }
 
     // Lets a call change the source where it stands.
     pub fn with_source<R, F: FnOnce(&mut S) -> R>(&mut self, i: usize, ask: F) -> R
-        requires within { i < length self.old }
-        requires there { Filled (slot_at self.old i).place }
+        requires there { SourceAt self.old i }
         requires callable { F.IsAlwaysCallable ask }
         ensures { (s : S) × (t : S) × ((slot_at self.old i).place ≡ Occupied s) × (self.new ≡ placed self.old i (Occupied t)) × FnOnceReturnsAtMut F.FnOnce ask s result t }
     {
@@ -142,8 +146,7 @@ impl<S> SourceList<S> {
 
     // Puts this into a slot that has no source in it.
     fn put(&mut self, i: usize, place: Place<S>)
-        requires within { i < length self.old }
-        requires there { Filled (slot_at self.old i).place → ⊥ }
+        requires { NoSourceAt self.old i }
         ensures { self.new ≡ placed self.old i place }
     {
         match self.exchange(i, place) {
@@ -154,8 +157,7 @@ impl<S> SourceList<S> {
 
     // Puts a source into a slot that has none.
     pub fn fill(&mut self, i: usize, source: S)
-        requires within { i < length self.old }
-        requires there { Filled (slot_at self.old i).place → ⊥ }
+        requires { NoSourceAt self.old i }
         ensures { self.new ≡ placed self.old i (Occupied source) }
     {
         self.put(i, Place::Occupied(source));
@@ -163,8 +165,7 @@ impl<S> SourceList<S> {
 
     // Empties a slot that has no source in it.
     pub fn empty(&mut self, i: usize)
-        requires within { i < length self.old }
-        requires there { Filled (slot_at self.old i).place → ⊥ }
+        requires { NoSourceAt self.old i }
         ensures { self.new ≡ placed self.old i Empty }
     {
         self.put(i, Place::Empty);

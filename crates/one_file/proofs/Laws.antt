@@ -1,19 +1,19 @@
 -- A source with one file keeps the rules of source kinds.
-use Rattle.std.proofs.Common.{◌≡◌, ℕ, Bool, ◌⊎◌, List, [], Some, None, Option, sym, refl, subst, inl, inr, rules}
+use Rattle.std.proofs.Common.{ℕ, Bool, List, [], Some, None, Option, sym, refl, subst, inl, arith, rules}
+use Rattle.std.proofs.lemmas.Grind.{common_steps}
 use Rattle.std.specs.Option.{option_map}
 use Rattle.token.specs.Key.{key_of}
 use Rattle.token.specs.Refusal.{Outcome, done, refused}
 use Rattle.poller.specs.Meaning.{Answer, Fate}
-use Rattle.sys.specs.Laws.{In}
 use Rattle.sys.specs.World.{Exchange, World, register_of, reregister_of, unregister_of}
-use Rattle.rules.specs.Calls.{Came, Went, drawn_to}
-use Rattle.rules.specs.Kinds.{Free, LettingGo, Reaches, Registering, Reregistering, Unregistering}
-use Rattle.rules.specs.Meaning.{Drawer, Drawn, Forward, Meaning, Nothing}
+use Rattle.rules.specs.Calls.{Came, Went}
+use Rattle.rules.specs.Kinds.{LettingGo, Reaches, Registering, Reregistering, Unregistering}
+use Rattle.rules.specs.Meaning.{Drawer, Drawn, Meaning, Nothing}
 use Rattle.rules.proofs.Drawing.{none_drawn, stays_put}
 use Rattle.rules.proofs.Steps.{let_go_reaches, reaches_same, reaches_then, reaches_weaker, registered_reaches, reregistered_reaches, unregistered_reaches}
 use Rattle.one_file.specs.declared.one_file.OneFile.{OneFile}
 use Rattle.one_file.specs.declared.tickets.Tickets.{Ghosts as TicketsOf}
-use Rattle.one_file.specs.Tickets.{DrawnFrom, Fresh, Kept}
+use Rattle.one_file.specs.Tickets.{DrawnFrom, Fresh}
 use Rattle.one_file.specs.Calls.{Leaves, Registers, Reregisters, Unregisters, after, cleared, entered, keys_in, left, line_of, meaning, reregister_by, unregister_by, with_tickets}
 
 module _ {T : Type 0} (tickets : TicketsOf T) (hooks : Bool) (s : OneFile T) where
@@ -36,28 +36,13 @@ module _ {T : Type 0} (tickets : TicketsOf T) (hooks : Bool) (s : OneFile T) whe
   leaving (Some t) w fate = record { reaches = clear_reaches (Some t) w fate; drew = λ k m. elim m [ ]; free = record { held = refl; entered = refl } }
 
   pub leaves_lawful : (w : World) (xs : List Exchange) (s' : OneFile T) (w' : World) → Leaves s w xs s' w' → LettingGo (means s) w xs (means s') w'
-  leaves_lawful w xs s' w' h = subst (λ (x : Went (OneFile T)). LettingGo (means s) w x.exchanges (means x.source) x.world) (sym h.1) (leaving s.tickets w h.0)
+  leaves_lawful w xs s' w' h = subst (λ (x : Went (Unit {0}) (OneFile T)). LettingGo (means s) w x.exchanges (means x.source) x.world) (sym h.1) (leaving s.tickets w h.0)
 
   -- REGISTERING
 
-  new_keys : (D : ℕ → Type 0) (t : T) (old : Option T) (r : Answer) → Kept D (tickets.main t) (tickets.keys t) → (k : ℕ) → In k (keys_in tickets.keys (after r t old)) → In k (keys_in tickets.keys old) ⊎ D k
-  new_keys D t old (done u) d k m = inr (d.all k m)
-  new_keys D t old (refused n c) d k m = inl m
-
-  only_new : (D : ℕ → Type 0) (t : T) (old : Option T) (r : Answer) → Kept D (tickets.main t) (tickets.keys t) → r ≡ done tt → (k : ℕ) → In k (keys_in tickets.keys (after r t old)) → D k
-  only_new D t old (done u) d e k m = d.all k m
-  only_new D t old (refused n c) d e k m = cc
-
-  refused_free : (t : T) (r : Answer) (n : ℕ) (c : Option ℕ) → r ≡ refused n c → Free (means (with_tickets s (after r t None)))
-  refused_free t (done u) n c e = cc
-  refused_free t (refused m b) n c e = record { held = refl; entered = refl }
-
   module _ (law : (d : Drawer) → DrawnFrom tickets.main tickets.keys d (tickets.draws d).0 (tickets.draws d).1) (w : World) (d : Drawer) where
-    draw_on : Forward d (drawn_to d (tickets.draws d).1)
-    draw_on = record { id = refl; version = refl; next = (law d).forward }
-
     abbrev D : ℕ → Type 0
-    D = Drawn d (drawn_to d (tickets.draws d).1)
+    D = Drawn d (tickets.draws d).1
 
     module _ (first second : Fate) where
       abbrev bare : OneFile T
@@ -71,10 +56,10 @@ module _ {T : Type 0} (tickets : TicketsOf T) (hooks : Bool) (s : OneFile T) whe
 
       registering : (o : Outcome T) → Fresh tickets.main tickets.keys D o
           → (λ (c : Came (OneFile T)). Registering (means s) w d c.exchanges c.answer (means c.source) c.world c.drawer)
-          (entered tickets (λ l v. register_of l s.mode v second) bare o mid (drawn_to d (tickets.draws d).1) before)
+          (entered tickets (λ l v. register_of l s.mode v second) bare o mid (tickets.draws d).1 before)
       registering (refused n c) f = record {
         reaches = reaches_weaker Nothing D _ _ w mid before (none_drawn D) (clear_reaches s.tickets w first);
-        draws = draw_on;
+        draws = (law d).forward;
         drew = λ k m. elim m [ ];
         refusing = λ n c e. record { held = refl; entered = refl };
       }
@@ -83,9 +68,9 @@ module _ {T : Type 0} (tickets : TicketsOf T) (hooks : Bool) (s : OneFile T) whe
           record {
             reaches = reaches_then Nothing D D _ (means bare) _ w mid _ before _ (none_drawn D) (λ k e. e) (clear_reaches s.tickets w first)
                 (registered_reaches (λ r. key_at (after r t None)) [] (keys_in tickets.keys (after c.answer t None)) hooks D (line_of bare (tickets.main t)) s.mode mid second f.file refl (λ n c. refl));
-            draws = draw_on;
-            drew = λ k m. elim (new_keys D t None c.answer f k m) [ inl q ↦ elim q [ ] | inr q ↦ q ];
-            refusing = λ n b e. refused_free t c.answer n b e;
+            draws = (law d).forward;
+            drew = λ k m. grind (arith, common_steps, f.all k);
+            refusing = λ n b e. grind (arith, common_steps);
           }
 
     pub registers_lawful : (xs : List Exchange) (r : Answer) (s' : OneFile T) (w' : World) (d' : Drawer) → Registers tickets s w d xs r s' w' d'
@@ -96,10 +81,10 @@ module _ {T : Type 0} (tickets : TicketsOf T) (hooks : Bool) (s : OneFile T) whe
     module _ (fate : Fate) where
       altering : (old : T) (o : Outcome T) → Fresh tickets.main tickets.keys D o
           → (λ (c : Came (OneFile T)). Reregistering (means (with_tickets s (Some old))) w d c.exchanges c.answer (means c.source) c.world c.drawer)
-          (entered tickets (λ l v. reregister_of l s.mode v fate) (with_tickets s (Some old)) o w (drawn_to d (tickets.draws d).1) [])
+          (entered tickets (λ l v. reregister_of l s.mode v fate) (with_tickets s (Some old)) o w (tickets.draws d).1 [])
       altering old (refused n c) f = record {
         reaches = reaches_same D _ _ w (search rules);
-        draws = draw_on;
+        draws = (law d).forward;
         drew = λ k m. inl m;
         accepting = λ e. cc;
       }
@@ -107,9 +92,9 @@ module _ {T : Type 0} (tickets : TicketsOf T) (hooks : Bool) (s : OneFile T) whe
           let c = reregister_of (line_of s (tickets.main t)) s.mode w fate in
           record {
             reaches = reregistered_reaches (λ r. key_at (after r t (Some old))) (tickets.keys old) (keys_in tickets.keys (after c.answer t (Some old))) hooks D (line_of s (tickets.main t)) s.mode w fate f.file refl (key_of (tickets.main old)) (λ n c. refl);
-            draws = draw_on;
-            drew = λ k m. new_keys D t (Some old) c.answer f k m;
-            accepting = λ e k m. only_new D t (Some old) c.answer f e k m;
+            draws = (law d).forward;
+            drew = λ k m. grind (arith, common_steps, f.all k);
+            accepting = λ e k m. grind (arith, common_steps, f.all k);
           }
 
       reregistering : (o : Option T) → (λ (c : Came (OneFile T)). Reregistering (means (with_tickets s o)) w d c.exchanges c.answer (means c.source) c.world c.drawer)
@@ -129,15 +114,7 @@ module _ {T : Type 0} (tickets : TicketsOf T) (hooks : Bool) (s : OneFile T) whe
 
   -- UNREGISTERING
 
-  fewer_keys : (t : T) (r : Answer) (k : ℕ) → In k (keys_in tickets.keys (left r (Some t))) → In k (tickets.keys t)
-  fewer_keys t (done u) k m = elim m [ ]
-  fewer_keys t (refused n c) k m = m
-
-  accepted_none : (t : T) (r : Answer) → r ≡ done tt → (means (with_tickets s (left r (Some t)))).held ≡ []
-  accepted_none t (done u) e = refl
-  accepted_none t (refused n c) e = cc
-
-  unregistering : (w : World) (fate : Fate) (o : Option T) → (λ (c : Went (OneFile T)). Unregistering (means (with_tickets s o)) w c.exchanges c.answer (means c.source) c.world)
+  unregistering : (w : World) (fate : Fate) (o : Option T) → (λ (c : Went (Unit {0}) (OneFile T)). Unregistering (means (with_tickets s o)) w c.exchanges c.answer (means c.source) c.world)
       (unregister_by (with_tickets s o) o w fate)
   unregistering w fate None = record {
     reaches = reaches_same _ _ _ w (search rules);
@@ -148,11 +125,11 @@ module _ {T : Type 0} (tickets : TicketsOf T) (hooks : Bool) (s : OneFile T) whe
       let c = unregister_of s.file w fate in
       record {
         reaches = unregistered_reaches (λ r. key_at (left r (Some t))) (tickets.keys t) (keys_in tickets.keys (left c.answer (Some t))) hooks s.file (key_of (tickets.main t)) w fate refl (λ j b i e. cc);
-        drew = λ k m. fewer_keys t c.answer k m;
-        accepting = λ e. accepted_none t c.answer e;
+        drew = λ k m. grind (arith, common_steps);
+        accepting = λ e. grind (arith, common_steps);
       }
 
   pub unregisters_lawful : (w : World) (xs : List Exchange) (r : Answer) (s' : OneFile T) (w' : World) → Unregisters s w xs r s' w'
       → Unregistering (means s) w xs r (means s') w'
   unregisters_lawful w xs r s' w' h =
-      subst (λ (x : Went (OneFile T)). Unregistering (means s) w x.exchanges x.answer (means x.source) x.world) (sym h.1) (unregistering w h.0 s.tickets)
+      subst (λ (x : Went (Unit {0}) (OneFile T)). Unregistering (means s) w x.exchanges x.answer (means x.source) x.world) (sym h.1) (unregistering w h.0 s.tickets)

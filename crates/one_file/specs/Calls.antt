@@ -1,19 +1,21 @@
 -- What each call of a source with one file comes to. The fates are the poller's: what it does past its checks.
 use Rattle.std.specs.Prelude.{◌≡◌, ℕ, Bool, List, [], ◌++◌, Some, None, Option}
-use Rattle.std.specs.Option.{option_map}
+use Rattle.std.specs.Option.{option_map, option_map_or}
 use Rattle.token.specs.declared.token.Token.{Token}
 use Rattle.token.specs.Key.{key_of}
 use Rattle.token.specs.Refusal.{Outcome, done, refused, refusal}
 use Rattle.poller.specs.Meaning.{Answer, Fate}
 use Rattle.levels.specs.declared.table.Line.{Line}
+use Rattle.sys.specs.Polling.{line_for}
 use Rattle.sys.specs.World.{Come, Exchange, World, let_go_of, register_of, reregister_of, unregister_of}
-use Rattle.rules.specs.Calls.{Came, Went, came, drawn_to, went}
+use Rattle.rules.specs.Calls.{Came, Went, came, went}
 use Rattle.rules.specs.Meaning.{Drawer, Meaning}
 use Rattle.rules.specs.OneFile.{one_file_of}
 use Rattle.one_file.specs.declared.one_file.OneFile.{OneFile}
 use Rattle.one_file.specs.declared.tickets.Tickets.{Ghosts as TicketsOf}
 
--- the tickets after an accepted registration, or those before it
+-- The tickets after an accepted registration, or those before it. By the answer, as `left` below and `lines_after` of `sys` are:
+-- a word for the choice alone would read no better.
 abbrev pub after : {T : Type 0} → Answer → T → Option T → Option T
 after (done u) t old = Some t
 after (refused n c) t old = old
@@ -25,8 +27,7 @@ left (refused n c) old = old
 
 -- the keys that are kept
 abbrev pub keys_in : {T : Type 0} → (T → List ℕ) → Option T → List ℕ
-keys_in keys None = []
-keys_in keys (Some t) = keys t
+keys_in keys o = option_map_or keys o []
 
 module _ {T : Type 0} where
   -- its file stands under the token of its tickets
@@ -38,13 +39,13 @@ module _ {T : Type 0} where
 
   -- its file under the token, as the level table knows it
   abbrev pub line_of : OneFile T → Token → Line
-  line_of s t = record { key = key_of t; file = s.file; interest = s.interest }
+  line_of s t = line_for s.file s.interest t
 
   -- LETTING GO: with tickets, one more delete
 
-  abbrev pub cleared : OneFile T → Option T → World → Fate → Went (OneFile T)
-  cleared s None w fate = record { answer = done tt; source = with_tickets s None; world = w; exchanges = [] }
-  cleared s (Some t) w fate = record { answer = done tt; source = with_tickets s None; world = (let_go_of s.file w fate).world; exchanges = (let_go_of s.file w fate).exchanges }
+  abbrev pub cleared : OneFile T → Option T → World → Fate → Went (Unit {0}) (OneFile T)
+  cleared s None w fate = went [] (done tt) (with_tickets s None) w
+  cleared s (Some t) w fate = went (let_go_of s.file w fate).exchanges (done tt) (with_tickets s None) (let_go_of s.file w fate).world
 
   -- letting go came to this, for one fate
   abbrev pub Leaves : OneFile T → World → List Exchange → OneFile T → World → Type 0
@@ -54,16 +55,16 @@ module _ {T : Type 0} where
 
   -- the polling system answered a registration
   abbrev pub registered : OneFile T → T → Come → Drawer → List Exchange → Came (OneFile T)
-  registered s t c d xs = record { answer = c.answer; source = with_tickets s (after c.answer t s.tickets); world = c.world; drawer = d; exchanges = xs ++ c.exchanges }
+  registered s t c d xs = came (xs ++ c.exchanges) c.answer (with_tickets s (after c.answer t s.tickets)) c.world d
 
   module _ (tickets : TicketsOf T) where
     -- with tickets in hand the file is registered under their token
     abbrev pub entered : (Line → World → Come) → OneFile T → Outcome T → World → Drawer → List Exchange → Came (OneFile T)
-    entered of s (refused n c) w d xs = record { answer = refused n c; source = s; world = w; drawer = d; exchanges = xs }
+    entered of s (refused n c) w d xs = came xs (refused n c) s w d
     entered of s (done t) w d xs = registered s t (of (line_of s (tickets.main t)) w) d xs
 
     abbrev pub drawn : (Line → World → Come) → OneFile T → World → Drawer → List Exchange → Came (OneFile T)
-    drawn of s w d xs = entered of s (tickets.draws d).0 w (drawn_to d (tickets.draws d).1) xs
+    drawn of s w d xs = entered of s (tickets.draws d).0 w (tickets.draws d).1 xs
 
     -- register: a file that it still holds is given up first
     abbrev pub register_by : OneFile T → World → Drawer → Fate → Fate → Came (OneFile T)
@@ -72,7 +73,7 @@ module _ {T : Type 0} where
 
     -- reregister: without tickets refused with 12, the poller not being asked
     abbrev pub reregister_by : OneFile T → Option T → World → Drawer → Fate → Came (OneFile T)
-    reregister_by s None w d fate = record { answer = refusal 12; source = s; world = w; drawer = d; exchanges = [] }
+    reregister_by s None w d fate = came [] (refusal 12) s w d
     reregister_by s (Some t) w d fate = drawn (λ l v. reregister_of l s.mode v fate) s w d []
 
     abbrev pub Registers : OneFile T → World → Drawer → List Exchange → Answer → OneFile T → World → Drawer → Type 0
@@ -84,12 +85,12 @@ module _ {T : Type 0} where
   -- UNREGISTERING
 
   -- the file was deleted from the poller, and the tickets are forgotten if that was accepted
-  abbrev pub dropped : OneFile T → Come → Went (OneFile T)
-  dropped s c = record { answer = c.answer; source = with_tickets s (left c.answer s.tickets); world = c.world; exchanges = c.exchanges }
+  abbrev pub dropped : OneFile T → Come → Went (Unit {0}) (OneFile T)
+  dropped s c = went c.exchanges c.answer (with_tickets s (left c.answer s.tickets)) c.world
 
   -- unregister: without tickets refused with 12, the poller not being asked
-  abbrev pub unregister_by : OneFile T → Option T → World → Fate → Went (OneFile T)
-  unregister_by s None w fate = record { answer = refusal 12; source = s; world = w; exchanges = [] }
+  abbrev pub unregister_by : OneFile T → Option T → World → Fate → Went (Unit {0}) (OneFile T)
+  unregister_by s None w fate = went [] (refusal 12) s w
   unregister_by s (Some t) w fate = dropped s (unregister_of s.file w fate)
 
   abbrev pub Unregisters : OneFile T → World → List Exchange → Answer → OneFile T → World → Type 0

@@ -1,12 +1,10 @@
 -- What a source draws at a registration: the token of its file, and others that it may need.
-use Rattle.std.specs.Prelude.{ℕ, ◌≤◌, List, [], ◌∷◌}
+use Rattle.std.specs.Prelude.{ℕ, List, [], ◌∷◌}
 use Rattle.token.specs.declared.token.Token.{Token}
-use Rattle.token.specs.Drawing.{draw_of}
 use Rattle.token.specs.Key.{key_of}
 use Rattle.token.specs.Refusal.{Outcome, done, refused}
 use Rattle.sys.specs.Laws.{In}
-use Rattle.rules.specs.Calls.{drawn_to}
-use Rattle.rules.specs.Meaning.{Drawer, Drawn}
+use Rattle.rules.specs.Meaning.{Drawer, Drawn, Forward}
 
 -- the token of the file, and all keys that the source keeps, were drawn
 pub record Kept (D : ℕ → Type 0) (token : Token) (keys : List ℕ) : Type 0 where
@@ -17,15 +15,12 @@ abbrev pub Fresh : {T : Type 0} → (T → Token) → (T → List ℕ) → (ℕ 
 Fresh token keys D (done t) = Kept D (token t) (keys t)
 Fresh token keys D (refused n c) = Unit {0}
 
--- the tickets came from the factory, whose next sub-id is `n` now
-pub record DrawnFrom {T : Type 0} (token : T → Token) (keys : T → List ℕ) (d : Drawer) (o : Outcome T) (n : ℕ) : Type 0 where
-  pub forward : d.next ≤ n
-  pub fresh : Fresh token keys (Drawn d (drawn_to d n)) o
+-- the tickets came from the factory `d`, which is `d'` now
+pub record DrawnFrom {T : Type 0} (token : T → Token) (keys : T → List ℕ) (d : Drawer) (o : Outcome T) (d' : Drawer) : Type 0 where
+  pub forward : Forward d d'
+  pub fresh : Fresh token keys (Drawn d d') o
 
 -- one token alone
-abbrev pub draw_one : Drawer → Outcome Token × ℕ
-draw_one d = draw_of d.id d.version d.next
-
 abbrev pub itself : Token → Token
 itself t = t
 

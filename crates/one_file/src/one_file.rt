@@ -1,6 +1,5 @@
 // One file of a source, and what was drawn when it was last registered.
 ghost use Rattle.one_file.specs.Calls.{Leaves, Registers, Reregisters, Unregisters};
-ghost use Rattle.rules.specs.Meaning.{drawer_of};
 ghost use Rattle.std.specs.Prelude.{◌≡◌, None};
 ghost use Rattle.sys.specs.World.{Between};
 ghost use Rattle.token.specs.Refusal.{outcome};
@@ -45,7 +44,7 @@ impl<T: Tickets> OneFile<T> {
         poll: &mut Poll<P, C>,
         factory: &mut TokenFactory,
     ) -> Result<(), Error>
-        ensures { Between P.Poller C.Clock poll.old poll.new (λ w xs w'. Registers T.Tickets self.old w (drawer_of factory.old) xs (outcome result) self.new w' (drawer_of factory.new)) }
+        ensures { Between P.Poller C.Clock poll.old poll.new (λ w xs w'. Registers T.Tickets self.old w factory.old xs (outcome result) self.new w' factory.new) }
     {
         self.let_go(poll);
         let tickets = T::draw(factory)?;
@@ -60,7 +59,7 @@ impl<T: Tickets> OneFile<T> {
         poll: &mut Poll<P, C>,
         factory: &mut TokenFactory,
     ) -> Result<(), Error>
-        ensures { Between P.Poller C.Clock poll.old poll.new (λ w xs w'. Reregisters T.Tickets self.old w (drawer_of factory.old) xs (outcome result) self.new w' (drawer_of factory.new)) }
+        ensures { Between P.Poller C.Clock poll.old poll.new (λ w xs w'. Reregisters T.Tickets self.old w factory.old xs (outcome result) self.new w' factory.new) }
     {
         if self.tickets.is_none() {
             return Err(Error::NotFound);

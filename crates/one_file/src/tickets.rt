@@ -1,7 +1,8 @@
 // What a source draws when it registers its file.
 ghost use Rattle.std.specs.Prelude.{◌≡◌, ℕ, List};
-ghost use Rattle.one_file.specs.Tickets.{DrawnFrom, draw_one, itself, key_alone};
-ghost use Rattle.rules.specs.Meaning.{Drawer, drawer_of};
+ghost use Rattle.one_file.specs.Tickets.{DrawnFrom, itself, key_alone};
+ghost use Rattle.rules.specs.Meaning.{Drawer};
+ghost use Rattle.token.specs.Drawing.{draw_of};
 ghost use Rattle.token.specs.Refusal.{Outcome, outcome};
 ghost use Rattle.token.specs.declared.token.Token.{Token};
 ghost use Rattle.std.proofs.Common.{rules};
@@ -9,8 +10,8 @@ ghost use Rattle.std.proofs.Common.{rules};
 use token::{Error, Token, TokenFactory};
 
 pub trait Tickets: Copy {
-    // What a factory gives, and its next sub-id after that.
-    ghost draws: { Drawer → Outcome Self × ℕ };
+    // What a factory gives, and the factory after that.
+    ghost draws: { Drawer → Outcome Self × Drawer };
 
     // The token of the file.
     ghost main: { Self → Token };
@@ -19,8 +20,7 @@ pub trait Tickets: Copy {
     ghost keys: { Self → List ℕ };
 
     fn draw(factory: &mut TokenFactory) -> Result<Self, Error>
-        ensures same { (factory.new.id ≡ factory.old.id) × (factory.new.version ≡ factory.old.version) }
-        ensures draws { (outcome result, factory.new.next) ≡ draws (drawer_of factory.old) };
+        ensures { (outcome result, factory.new) ≡ draws factory.old };
 
     fn token(&self) -> Token
         ensures { result ≡ main self.now };
@@ -30,7 +30,7 @@ pub trait Tickets: Copy {
 
 // One token alone.
 impl Tickets for Token {
-    ghost draws = { draw_one };
+    ghost draws = { draw_of };
 
     ghost main = { itself };
 

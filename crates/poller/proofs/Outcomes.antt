@@ -1,48 +1,49 @@
 -- What each call of the table comes to, way by way.
 use Rattle.std.specs.Prelude.{◌≡◌, ℕ, Bool, true, false, List, set, is_some, Some, None, Ok, Option, Result, slice_index_or}
-use Rattle.std.proofs.Common.{sym, ap, ◌∙◌}
+use Rattle.std.proofs.Common.{refl, arith}
 use Rattle.std.specs.List.{remove as cut_at}
-use Rattle.std.proofs.lemmas.Bool.{cond-true}
+use Rattle.std.proofs.lemmas.Grind.{common_steps, elements}
 use Rattle.token.specs.Refusal.{done}
 use Rattle.poller.specs.declared.entry.Entry.{Entry}
-use Rattle.poller.specs.Meaning.{Answer, delete_of, lessened}
-use Rattle.poller.specs.Places.{place_of, fate_of}
+use Rattle.poller.specs.Meaning.{Answer, delete_of}
+use Rattle.poller.specs.Places.{place_of}
 use Rattle.poller.specs.declared.entry.Request.{Request}
-use Rattle.poller.specs.Register.{holds, distinct, changed, renewed, marked}
-use Rattle.poller.proofs.Standing.{split, split_entry, set_changed, cut_removed, holds_place, distinct_push, set_apart, removal_apart}
-
-pub absent : (f : ℕ) (es : List Entry) → None ≡ place_of f es → holds f es ≡ false
-absent f es p = sym (holds_place f es) ∙ ap (λ (o : Option ℕ). is_some o) (sym p)
-
-pub present : (f : ℕ) (es : List Entry) (i : ℕ) → Some i ≡ place_of f es → holds f es ≡ true
-present f es i p = sym (holds_place f es) ∙ ap (λ (o : Option ℕ). is_some o) (sym p)
+use Rattle.poller.specs.Register.{Distinct, holds, changed, fresh, renewed, marked}
+use Rattle.poller.proofs.Standing.{found_file, written, cut_removed, holds_place, others}
 
 -- what a search says of the file
 pub found : (f : ℕ) (es : List Entry) (o : Option ℕ) (b : Bool) → o ≡ place_of f es → b ≡ is_some o → holds f es ≡ b
-found f es o b p e = sym (holds_place f es) ∙ ap (λ (x : Option ℕ). is_some x) (sym p) ∙ sym e
+found f es o b p e = grind (arith, common_steps, holds_place f es)
 
--- a write to the entry that was found, and its removal
-module _ (f : ℕ) (es : List Entry) (i : ℕ) (d : distinct es ≡ true) (p : Some i ≡ place_of f es) where
-  pub written : (g : Entry → Entry) (y : Entry) → y ≡ slice_index_or es i y → set es i (g y) ≡ changed f g es
-  written g y is = let s = split f es i d (sym p) in set_changed f es i g (g y) s (ap g (is ∙ split_entry f es i y s))
+pub absent : (f : ℕ) (es : List Entry) → None ≡ place_of f es → holds f es ≡ false
+absent f es p = found f es None false p refl
 
-  pub marking : (y : Entry) → y ≡ slice_index_or es i y → set es i (marked y) ≡ changed f marked es
-  marking y is = written marked y is
+pub present : (f : ℕ) (es : List Entry) (i : ℕ) → Some i ≡ place_of f es → holds f es ≡ true
+present f es i p = found f es (Some i) true p refl
 
-pub renewing : (q : Request) (es : List Entry) (i : ℕ) (d : distinct es ≡ true) (p : Some i ≡ place_of q.file es) (y : Entry) → y ≡ slice_index_or es i y
-    → set es i (renewed q y) ≡ changed q.file (renewed q) es
-renewing q es i d p y is = written q.file es i d p (renewed q) y is
+-- a write to the entry that was found
+pub marking : (f : ℕ) (es : List Entry) (i : ℕ) → Distinct es → Some i ≡ place_of f es → (y : Entry) → y ≡ slice_index_or es i y → set es i (marked y) ≡ changed f marked es
+marking f es i d p y is = grind (arith, common_steps, written f marked y es i d p)
+
+-- with key, interest and mode as asked, and stuck as it was
+module _ (q : Request) (es : List Entry) (i : ℕ) (d : Distinct es) (p : Some i ≡ place_of q.file es) (y : Entry) (is : y ≡ slice_index_or es i y) (x : Entry) (new : x ≡ fresh q) where
+  pub renewing : set es i (record x { stuck = y.stuck }) ≡ changed q.file (renewed q) es
+  renewing =
+      let at = found_file q.file y es i p in
+      let same : record x { stuck = y.stuck } ≡ renewed q y = cc in
+      rw same (grind (arith, common_steps, written q.file (renewed q) y es i d p))
+
+  pub renewing_apart : Distinct (set es i (record x { stuck = y.stuck }))
+  renewing_apart k j e m n = grind (arith, elements, found_file q.file y es i p, d k j e)
 
 -- the entry that was found goes, where the call works
-pub deleted_works : (f : ℕ) (es : List Entry) (r : Result (Unit {0}) ℕ) (i : ℕ) → distinct es ≡ true → Some i ≡ place_of f es → r ≡ Ok tt → (ys : List Entry) → ys ≡ cut_at es i
-    → ◌≡◌ {A = Answer × List Entry} (done tt, ys) (delete_of es f (fate_of r))
-deleted_works f es r i d p w ys is =
-    ap (λ (l : List Entry). (done tt, l)) (is ∙ cut_removed f es i (split f es i d (sym p)))
-    ∙ sym (cond-true _ _ _ (present f es i p) ∙ ap (λ (x : Result (Unit {0}) ℕ). lessened es f (fate_of x)) w)
+pub deleted_works : (f : ℕ) (es : List Entry) (r : Result (Unit {0}) ℕ) (i : ℕ) → Distinct es → Some i ≡ place_of f es → (u : Unit {0}) → r ≡ Ok u → (ys : List Entry) → ys ≡ cut_at es i
+    → ◌≡◌ {A = Answer × List Entry} (done tt, ys) (delete_of es f r)
+deleted_works f es r i d p u w ys is = grind (arith, present f es i p, cut_removed f es i d p)
 
 -- what the table's calls stand on
-pub ruleset adding = (found, distinct_push)
+pub ruleset adding = (found, others)
 
-pub ruleset modifying = (absent, present, renewing, set_apart)
+pub ruleset modifying = (absent, present, renewing, renewing_apart)
 
-pub ruleset deleting = (absent, present, marking, set_apart, removal_apart)
+pub ruleset deleting = (absent, present, marking)

@@ -1,17 +1,17 @@
 -- The poller of a board's lines, over plain values.
-use Rattle.std.specs.Prelude.{◌≡◌, ℕ, zero, suc, Bool, true, false, cond, not, List, [], ◌∷◌, ◌++◌, map, Some, None, Option, ◌==◌, nat_lt}
+use Rattle.std.specs.Prelude.{◌≡◌, ℕ, Bool, true, false, if◌then◌else◌, not, ◌&&◌, ◌||◌, List, Some, None, Ok, Err, filter, Option, ◌==◌, nat_lt}
+use Rattle.std.specs.List.{range_with_len}
 use Rattle.std.specs.Int.{bit_at}
-use Rattle.token.specs.Refusal.{done}
 use Rattle.poller.specs.declared.entry.Entry.{Entry}
 use Rattle.poller.specs.declared.entry.Event.{Event}
 use Rattle.poller.specs.declared.entry.Mode.{Mode}
-use Rattle.poller.specs.declared.entry.Mode.TheVariants.{OneShot, Level, Edge}
+use Rattle.poller.specs.declared.entry.Mode.TheVariants.{Edge}
 use Rattle.poller.specs.declared.line.LinePoller.{LinePoller}
-use Rattle.poller.specs.Meaning.{Answer, Fate, works, fails, add_of, modify_of, delete_of, told}
+use Rattle.poller.specs.Meaning.{Answer, Fate, add_of, modify_of, delete_of, leaving}
 use Rattle.poller.specs.Places.{entries_of}
 use Rattle.poller.specs.declared.entry.Request.{Request}
 use Rattle.poller.specs.Register.{entry_of}
-use Rattle.poller.specs.Reports.{ripe, events_of}
+use Rattle.poller.specs.Reports.{ripe, reporting}
 
 pub record LineView : Type 0 where
   pub entries : List Entry
@@ -31,29 +31,29 @@ bit n f = bit_at n f == 1
 pub record LinesSet (v : LineView) (n : ℕ) (v' : LineView) : Type 0 where
   pub entries : v'.entries ≡ v.entries
   pub lines : v'.lines ≡ n
-  pub risen : (f : ℕ) → bit v'.risen f ≡ cond (bit v.risen f) true (cond (bit n f) (not (bit v.lines f)) false)
+  pub risen : (f : ℕ) → bit v'.risen f ≡ (bit v.risen f || bit n f && not (bit v.lines f))
 
 -- there is no line for a file above 63
 abbrev pub line_fate : ℕ → Fate
-line_fate f = cond (nat_lt f 64) works (fails 9)
+line_fate f = if nat_lt f 64 then Ok tt else Err 9
 
-abbrev pub line_called : LineView → Answer × List Entry → Answer × LineView
-line_called v o = (o.0, record v { entries = o.1 })
+-- of this view; the other poller's is of its own record
+abbrev pub with_entries : LineView → List Entry → LineView
+with_entries v es = record v { entries = es }
 
 abbrev pub line_add : LineView → Request → Answer × LineView
-line_add v q = line_called v (add_of 64 v.entries q (line_fate q.file))
+line_add v q = leaving (with_entries v) (add_of 64 v.entries q (line_fate q.file))
 
 abbrev pub line_modify : LineView → Request → Answer × LineView
-line_modify v q = line_called v (modify_of v.entries q works)
+line_modify v q = leaving (with_entries v) (modify_of v.entries q (Ok tt))
 
 abbrev pub line_delete : LineView → ℕ → Answer × LineView
-line_delete v f = line_called v (delete_of v.entries f works)
+line_delete v f = leaving (with_entries v) (delete_of v.entries f (Ok tt))
 
 -- an Edge entry is reported only if its line has risen
 abbrev pub awaited : Bool → Mode → Bool
-awaited b OneShot = true
-awaited b Level = true
 awaited b Edge = b
+awaited b m = true
 
 abbrev pub awaited_at : Bool → Option Entry → Bool
 awaited_at b None = false
@@ -61,16 +61,14 @@ awaited_at b (Some e) = awaited b e.mode
 
 -- a wait reports the entry, by its line and whether that has risen
 abbrev pub due_by : Bool → Bool → Option Entry → Bool
-due_by set risen o = cond set (cond (ripe o) (awaited_at risen o) false) false
+due_by set risen o = set && ripe o && awaited_at risen o
 
 abbrev pub due : LineView → ℕ → Bool
 due v f = due_by (bit v.lines f) (bit v.risen f) (entry_of f v.entries)
 
--- the numbers below n that pass, in rising order
+-- the numbers below n that pass, in rising order; unfoldable, since at 64 it would compute to each choice of them
 unfoldable pub passing : (ℕ → Bool) → ℕ → List ℕ
-passing p zero = []
-passing p (suc n) = passing p n ++ cond (p n) (n ∷ []) []
+passing p n = filter p (range_with_len 0 n)
 
 abbrev pub line_wait : LineView → Answer × List Event × LineView
-line_wait v =
-    (done tt, events_of v.entries (passing (due v) 64), record { entries = map (told (passing (due v) 64)) v.entries; lines = v.lines; risen = 0 })
+line_wait v = reporting (with_entries (record v { risen = 0 })) v.entries (passing (due v) 64)

@@ -1,5 +1,6 @@
 -- A poller's entries, as a list with distinct files.
-use Rattle.std.specs.Prelude.{◌≡◌, ℕ, ◌≤◌, Bool, true, false, cond, not, List, [], ◌∷◌, map, length, is_some, filter, find, Option, ◌==◌}
+use Rattle.std.specs.Prelude.{ℕ, ◌≤◌, Bool, true, false, if◌then◌else◌, not, List, map, length, is_some, filter, find, Option, ◌==◌, ◌≢◌}
+use Rattle.std.specs.List.{AllPairs}
 use Rattle.poller.specs.declared.entry.Entry.{Entry}
 use Rattle.poller.specs.declared.entry.Request.{Request}
 
@@ -11,20 +12,19 @@ abbrev pub holds : ℕ → List Entry → Bool
 holds f es = is_some (entry_of f es)
 
 -- no two entries have one file
-abbrev pub distinct : List Entry → Bool
-distinct [] = true
-distinct (e ∷ es) = cond (holds e.file es) false (distinct es)
+abbrev pub Distinct : List Entry → Type 0
+Distinct es = AllPairs (λ (d e : Entry). d.file ≢ e.file) es
 
 -- what every poller's entries are, at the most `m` of them
 pub record Sound (m : ℕ) (es : List Entry) : Type 0 where
-  pub apart : distinct es ≡ true
+  pub apart : Distinct es
   pub some : 1 ≤ m
   pub most : m ≤ 256
   pub room : length es ≤ m
 
 -- the file's entry is changed in its place, and all others stay
 abbrev pub changed : ℕ → (Entry → Entry) → List Entry → List Entry
-changed f g es = map (λ (e : Entry). cond (e.file == f) (g e) e) es
+changed f g es = map (λ (e : Entry). if e.file == f then g e else e) es
 
 -- the file's entry goes, and all others stay
 abbrev pub removed : ℕ → List Entry → List Entry

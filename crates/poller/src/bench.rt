@@ -2,7 +2,7 @@
 ghost use Rattle.std.specs.Prelude.{◌≡◌, ℕ, true, false, List, [], map, IfOk, vec_len, count_by, refl};
 ghost use Rattle.poller.specs.Bench.{bench_add, bench_delete, bench_modify, bench_of, bench_wait, fate_by, once_more, reported, step_of, stepped};
 ghost use Rattle.poller.specs.Meaning.{told};
-ghost use Rattle.poller.specs.Places.{entries_of, fate_of};
+ghost use Rattle.poller.specs.Places.{entries_of};
 ghost use Rattle.poller.specs.Reports.{Marks, Midst, events_of};
 ghost use Rattle.poller.specs.declared.entry.Entry.{Entry};
 ghost use Rattle.poller.specs.Waits.{bench_waits};
@@ -25,7 +25,7 @@ pub enum Step {
 
 #[derive(Drop)]
 pub struct BenchPoller {
-    pub(crate) table: Table,
+    pub(crate) table: Table<256>,
     // the files that are ready, in the order of the script
     pub(crate) ready: Vec<u32>,
     // what the next calls come to, in the list that was handed over, which a queue would copy
@@ -70,7 +70,7 @@ impl BenchPoller {
 
     // Whether the next call works; an Err is the code with which it fails.
     fn next_fate(&mut self) -> Result<(), u32>
-        ensures value { fate_of result ≡ fate_by (step_of (bench_of self.old).steps) }
+        ensures value { result ≡ fate_by (step_of (bench_of self.old).steps) }
         ensures after { bench_of self.new ≡ stepped (bench_of self.old) }
     {
         match self.next_step() {
@@ -82,7 +82,7 @@ impl BenchPoller {
 
 // Reports the file's entry, unless it was told already or may not be reported.
 #[tactic(auto, using(crate::proofs::Reporting::marking_one))]
-fn consider(table: &mut Table, file: u32, told: &mut [bool; 256], events: &mut Events)
+fn consider(table: &mut Table<256>, file: u32, told: &mut [bool; 256], events: &mut Events)
     requires { vec_len events.old.items ≡ count_by (λ b. b) told.old }
     ensures count { vec_len events.new.items ≡ count_by (λ b. b) told.new }
     ensures goes { (es : List Entry) (fs : List ℕ) → Midst es fs (entries_of table.old) events.old.items.items → Marks es fs told.old → Midst es (once_more es fs file) (entries_of table.new) events.new.items.items × Marks es (once_more es fs file) told.new }
@@ -100,7 +100,7 @@ fn consider(table: &mut Table, file: u32, told: &mut [bool; 256], events: &mut E
 
 // Reports the entries of the files that are ready, in their order, each entry once.
 #[tactic(auto, using(crate::proofs::Benching::stands_more, crate::proofs::Benching::stands_all))]
-fn report(table: &mut Table, ready: &[u32], events: &mut Events)
+fn report(table: &mut Table<256>, ready: &[u32], events: &mut Events)
     requires { events.old.items.items ≡ [] }
     ensures entries { entries_of table.new ≡ map (told (reported (entries_of table.old) ready.now)) (entries_of table.old) }
     ensures events { events.new.items.items ≡ events_of (entries_of table.old) (reported (entries_of table.old) ready.now) }
@@ -141,7 +141,7 @@ impl Poller for BenchPoller {
 
     fn add(&mut self, request: Request) -> Result<(), Error> {
         let fate = self.next_fate();
-        self.table.add(256, request, fate)
+        self.table.add(request, fate)
     }
 
     fn modify(&mut self, request: Request) -> Result<(), Error> {

@@ -12,6 +12,7 @@ pub enum Mode {
 }
 
 // The sides of a file that an entry wants.
+// Readiness (what a source is told) and Event (what is reported) have calloop's fields too: three meanings, so no one struct.
 #[derive(Clone, Copy, PartialEq, Eq, Debug)]
 pub struct Interest {
     pub readable: bool,

@@ -1,6 +1,7 @@
 // A poller's entries, and the calls that change them. Only `new` allocates.
-ghost use Rattle.std.specs.Prelude.{◌≡◌, true, ℕ, ◌+◌, ◌<◌, min, [], ◌++◌, IfSome, IfOk, Some, vec_len};
-ghost use Rattle.poller.specs.Register.{distinct};
+ghost use Rattle.std.specs.Prelude.{◌≡◌, ℕ, ◌+◌, ◌<◌, [], ◌++◌, IfSome, IfOk, Some, vec_len};
+ghost use Rattle.bounded.specs.Room.{HasRoom};
+ghost use Rattle.poller.specs.Register.{Distinct};
 
 use crate::entry::{Entry, Event, Mode, Request};
 use crate::events::Events;
@@ -8,21 +9,21 @@ use bounded::Bounded;
 use std::alloc::{AllocError, Global};
 use token::Error;
 
-// At most 256 entries, with distinct files. A list and no map, whose entries would be allocated one by one.
+// At most `N` entries, with distinct files. A list and no map, whose entries would be allocated one by one.
 #[derive(Drop)]
-pub struct Table {
-    pub(crate) entries: Bounded<Entry, 256>,
-    ghost apart: { distinct entries.items.items ≡ true },
+pub struct Table<const N: usize> {
+    pub(crate) entries: Bounded<Entry, N>,
+    ghost apart: { Distinct entries.items.items },
 }
 
-impl Table {
+impl<const N: usize> Table<N> {
     ghost use Rattle.poller.specs.Meaning.{add_of, delete_of, modify_of};
-    ghost use Rattle.poller.specs.Places.{entries_of, fate_of, place_of};
+    ghost use Rattle.poller.specs.Places.{entries_of, place_of};
     ghost use Rattle.poller.specs.Register.{changed};
     ghost use Rattle.poller.specs.Reports.{event_at, reported_once};
     ghost use Rattle.token.specs.Refusal.{outcome};
 
-    pub fn new(heap: Global) -> Result<Table, AllocError>
+    pub fn new(heap: Global) -> Result<Table<N>, AllocError>
         ensures { IfOk result (λ t. entries_of t ≡ []) }
     {
         let entries = Bounded::new(heap)?;
@@ -42,13 +43,13 @@ impl Table {
 
     // Past its checks the call ends as `fate` says, here and below; an Err has the poller's own code.
     #[tactic(auto, using(crate::proofs::Outcomes::adding))]
-    pub fn add(&mut self, most: usize, request: Request, fate: Result<(), u32>) -> Result<(), Error>
-        ensures { (outcome result, entries_of self.new) ≡ add_of (min most 256) (entries_of self.old) request (fate_of fate) }
+    pub fn add(&mut self, request: Request, fate: Result<(), u32>) -> Result<(), Error>
+        ensures { (outcome result, entries_of self.new) ≡ add_of N (entries_of self.old) request fate }
     {
         if self.find(request.file).is_some() {
             return Err(Error::Exists);
         }
-        if self.entries.items.len() >= most || self.entries.is_full() {
+        if self.entries.is_full() {
             return Err(Error::PollerFull);
         }
         fate.map_err(Error::PollerFailed)?;
@@ -58,32 +59,32 @@ impl Table {
 
     #[tactic(auto, using(crate::proofs::Outcomes::modifying))]
     pub fn modify(&mut self, request: Request, fate: Result<(), u32>) -> Result<(), Error>
-        ensures { (outcome result, entries_of self.new) ≡ modify_of (entries_of self.old) request (fate_of fate) }
+        ensures { (outcome result, entries_of self.new) ≡ modify_of (entries_of self.old) request fate }
     {
         let Some(i) = self.find(request.file) else {
             return Err(Error::NotFound);
         };
         fate.map_err(Error::PollerFailed)?;
         let entry = &mut self.entries.items[i];
-        entry.key = request.key;
-        entry.interest = request.interest;
-        entry.mode = request.mode;
-        entry.armed = true;
+        *entry = Entry {
+            stuck: entry.stuck,
+            ..Entry::from(request)
+        };
         Ok(())
     }
 
     // A delete that fails marks its entry stuck.
     #[tactic(auto, using(crate::proofs::Outcomes::deleting))]
     pub fn delete(&mut self, file: u32, fate: Result<(), u32>) -> Result<(), Error>
-        ensures { (outcome result, entries_of self.new) ≡ delete_of (entries_of self.old) file (fate_of fate) }
+        ensures { (outcome result, entries_of self.new) ≡ delete_of (entries_of self.old) file fate }
     {
         let Some(i) = self.find(file) else {
             return Err(Error::NotFound);
         };
-        if fate.is_err() {
+        if let Err(code) = fate {
             self.entries.items[i].stuck = true;
+            return Err(Error::PollerFailed(code));
         }
-        fate.map_err(Error::PollerFailed)?;
         self.entries.items.remove(i);
         Ok(())
     }
@@ -92,7 +93,7 @@ impl Table {
     #[tactic(auto, using(crate::proofs::Reporting::telling))]
     pub(crate) fn tell(&mut self, i: usize, events: &mut Events)
         requires within { i < vec_len self.old.entries.items }
-        requires room { vec_len events.old.items < 256 }
+        requires room { HasRoom events.old }
         ensures entries { (f : ℕ) → Some i ≡ place_of f (entries_of self.old) → entries_of self.new ≡ changed f reported_once (entries_of self.old) }
         ensures events { (f : ℕ) → Some i ≡ place_of f (entries_of self.old) → events.new.items.items ≡ events.old.items.items ++ event_at (entries_of self.old) f }
         ensures count { vec_len events.new.items ≡ vec_len events.old.items + 1 }

@@ -1,19 +1,24 @@
 -- What a source does to the polling system: nothing, one call after another, and each call over one file.
-use Rattle.std.proofs.Common.{◌≡◌, ℕ, Bool, List, [], ◌++◌, Some, None, Option, sym, refl, ◌∙◌, subst}
+use Rattle.std.proofs.Common.{◌≡◌, ℕ, Bool, List, [], ◌∷◌, ◌++◌, is_some, Some, None, Option, refl, ◌∙◌, arith}
+use Rattle.std.proofs.lemmas.Grind.{common_steps}
 use Rattle.std.proofs.ByRecursion.{All-append, All-weaker}
 use Rattle.token.specs.Refusal.{Outcome, done, refused}
+use Rattle.poller.specs.declared.entry.Entry.{Entry}
 use Rattle.poller.specs.declared.entry.Mode.{Mode}
+use Rattle.poller.specs.declared.entry.Request.{Request}
 use Rattle.poller.specs.Meaning.{Answer, Fate, add_of, modify_of}
 use Rattle.levels.specs.declared.table.Line.{Line}
 use Rattle.sys.specs.Laws.{Touches}
 use Rattle.sys.specs.Polling.{mode_below_of, request}
-use Rattle.sys.specs.World.{Exchange, World, added, deleted, let_go_of, modified, read, register_of, reregister_of, sent, unregister_of}
+use Rattle.sys.specs.World.{Come, Exchange, World, added, let_go_of, modified, register_of, reregister_of, sent, unregister_of, with_table}
 use Rattle.sys.proofs.Locality.{let_go_touches, register_touches, reregister_touches, unregister_touches}
+use Rattle.sys.proofs.Outcomes.{Registered, add_leaves, delete_leaves, modify_leaves}
 use Rattle.rules.specs.Kinds.{Enters, Reaches}
 use Rattle.rules.specs.Meaning.{Meaning, Nothing}
-use Rattle.rules.specs.OneFile.{one_file_of}
+use Rattle.rules.specs.Files.{Keeps}
+use Rattle.rules.specs.OneFile.{one_file_of, own_files, under}
 use Rattle.rules.proofs.Files.{keeps_same, keeps_then}
-use Rattle.rules.proofs.OneFile.{added_keeps, deleted_keeps, modified_keeps}
+use Rattle.rules.proofs.OneFile.{deleted_keeps, entered_keeps}
 use Rattle.rules.proofs.Timers.{timers_same, timers_then}
 
 -- the source holds what it held
@@ -34,10 +39,7 @@ reaches_same D m m' w a = record {
 }
 
 enters_weaker : (D F : ℕ → Type 0) → ((k : ℕ) → D k → F k) → (x : Exchange) → Enters D x → Enters F x
-enters_weaker D F h (added q r) e = h q.key e
-enters_weaker D F h (modified q r) e = h q.key e
-enters_weaker D F h (deleted f r) e = tt
-enters_weaker D F h (read n) e = tt
+enters_weaker D F h x e = grind (arith, common_steps, h)
 
 pub reaches_then : (D E F : ℕ → Type 0) (m m' m'' : Meaning) (w w' w'' : World) (xs ys : List Exchange) → ((k : ℕ) → D k → F k) → ((k : ℕ) → E k → F k)
     → Reaches D m w xs m' w' → Reaches E m' w' ys m'' w'' → Reaches F m w (xs ++ ys) m'' w''
@@ -51,80 +53,52 @@ reaches_then D E F m m' m'' w w' w'' xs ys df ef a b = record {
 }
 
 pub reaches_weaker : (D F : ℕ → Type 0) (m m' : Meaning) (w w' : World) (xs : List Exchange) → ((k : ℕ) → D k → F k) → Reaches D m w xs m' w' → Reaches F m w xs m' w'
-reaches_weaker D F m m' w w' xs h a = record {
-  files = keeps_then D F F m.held m'.held m'.held m.entered m'.entered m'.entered w.entries w'.entries w'.entries h (λ k f. f) a.files (keeps_same F m'.held m'.entered w'.entries w'.entries refl);
-  timers = timers_then D F F m.counters m'.counters m'.counters w.wheel w'.wheel w'.wheel h (λ k f. f) a.timers (timers_same F m'.counters w'.wheel w'.wheel refl);
-  enters = All-weaker (Enters D) (Enters F) (enters_weaker D F h) xs a.enters;
-  level = a.level;
-  most = a.most;
-  hooks = a.hooks;
-}
+reaches_weaker D F m m' w w' xs h a = reaches_then F D F m m m' w w w' [] xs (λ k f. f) h (reaches_same F m m w (record { held = refl; entered = refl; counters = refl; hooks = refl })) a
 
 -- ONE FILE
 
+module _ (D : ℕ → Type 0) (f : ℕ) (k k' : Option ℕ) (drew drew' : List ℕ) (hooks : Bool) (w : World) where
+  -- the poller was asked once, about the file
+  touched_reaches : (es : List Entry) (ls : Option (List Line)) (x : Exchange) → Keeps D (under f k) (own_files f k) w.entries (under f k') (own_files f k') es → Enters D x
+      → Touches f w.entries w.lines es ls → Reaches D (one_file_of f k drew hooks) w (x ∷ []) (one_file_of f k' drew' hooks) (with_table w es ls)
+  touched_reaches es ls x keeps enters t = record {
+    files = keeps;
+    timers = timers_same D [] w.wheel w.wheel refl;
+    enters = (enters, tt);
+    level = t.consistent;
+    most = refl;
+    hooks = refl;
+  }
+
 module _ (key : Answer → Option ℕ) (drew drew' : List ℕ) (hooks : Bool) where
   module _ (D : ℕ → Type 0) (l : Line) (m : Mode) (w : World) (fate : Fate) (d : D l.key) (kept : key (done tt) ≡ Some l.key) where
-    pub registered_reaches : ((n : ℕ) (c : Option ℕ) → key (refused n c) ≡ None)
-        → Reaches D (one_file_of l.file None drew hooks) w (register_of l m w fate).exchanges (one_file_of l.file (key (register_of l m w fate).answer) drew' hooks) (register_of l m w fate).world
-    registered_reaches lost = at (mode_below_of w.lines l.key m) (register_touches l m w fate)
-      where
-        at : (o : Outcome Mode) → Touches l.file w.entries w.lines (sent added (λ q. add_of w.most w.entries q fate) o l m w).world.entries (sent added (λ q. add_of w.most w.entries q fate) o l m w).world.lines
-            → Reaches D (one_file_of l.file None drew hooks) w (sent added (λ q. add_of w.most w.entries q fate) o l m w).exchanges (one_file_of l.file (key (sent added (λ q. add_of w.most w.entries q fate) o l m w).answer) drew' hooks) (sent added (λ q. add_of w.most w.entries q fate) o l m w).world
-        at (refused n c) t = subst (λ (k : Option ℕ). Reaches D (one_file_of l.file None drew hooks) w [] (one_file_of l.file k drew' hooks) w) (sym (lost n c))
-            (reaches_same D _ _ w (record { held = refl; entered = refl; counters = refl; hooks = refl }))
-        at (done b) t = record {
-          files = added_keeps key D w.most w.entries (request l b) fate d kept lost t.others;
-          timers = timers_same D [] w.wheel w.wheel refl;
-          enters = (d, tt);
-          level = t.consistent;
-          most = refl;
-          hooks = refl;
-        }
+    -- what a registration came to, where the source held the file under the key k, or nothing
+    abbrev Sends : Option ℕ → Come → Type 0
+    Sends k c = Reaches D (one_file_of l.file k drew hooks) w c.exchanges (one_file_of l.file (key c.answer) drew' hooks) c.world
 
-    pub reregistered_reaches : (n : ℕ) → ((j : ℕ) (c : Option ℕ) → key (refused j c) ≡ Some n)
-        → Reaches D (one_file_of l.file (Some n) drew hooks) w (reregister_of l m w fate).exchanges (one_file_of l.file (key (reregister_of l m w fate).answer) drew' hooks) (reregister_of l m w fate).world
-    reregistered_reaches n lost = at (mode_below_of w.lines l.key m) (reregister_touches l m w fate)
-      where
-        at : (o : Outcome Mode) → Touches l.file w.entries w.lines (sent modified (λ q. modify_of w.entries q fate) o l m w).world.entries (sent modified (λ q. modify_of w.entries q fate) o l m w).world.lines
-            → Reaches D (one_file_of l.file (Some n) drew hooks) w (sent modified (λ q. modify_of w.entries q fate) o l m w).exchanges (one_file_of l.file (key (sent modified (λ q. modify_of w.entries q fate) o l m w).answer) drew' hooks) (sent modified (λ q. modify_of w.entries q fate) o l m w).world
-        at (refused j c) t = subst (λ (k : Option ℕ). Reaches D (one_file_of l.file (Some n) drew hooks) w [] (one_file_of l.file k drew' hooks) w) (sym (lost j c))
-            (reaches_same D _ _ w (record { held = refl; entered = refl; counters = refl; hooks = refl }))
-        at (done b) t = record {
-          files = modified_keeps key D n w.entries (request l b) fate d kept lost t.others;
-          timers = timers_same D [] w.wheel w.wheel refl;
-          enters = (d, tt);
-          level = t.consistent;
-          most = refl;
-          hooks = refl;
-        }
+    sent_reaches : (k : Option ℕ) (ask : Request → Answer → Exchange) (of : Request → Answer × List Entry) → ((n : ℕ) (c : Option ℕ) → key (refused n c) ≡ k)
+        → ((q : Request) (r : Answer) → D q.key → Enters D (ask q r)) → ((q : Request) → Registered (is_some k) w.entries q (of q).0 (of q).1)
+        → (o : Outcome Mode) → Touches l.file w.entries w.lines (sent ask of o l m w).world.entries (sent ask of o l m w).world.lines → Sends k (sent ask of o l m w)
+    sent_reaches k ask of lost enters law (refused n c) t = rw (lost n c) (reaches_same D _ _ w (record { held = refl; entered = refl; counters = refl; hooks = refl }))
+    sent_reaches k ask of lost enters law (done b) t =
+        let q = request l b in
+        touched_reaches D l.file k _ drew drew' hooks w _ _ _ (entered_keeps key D k w.entries q (of q).0 (of q).1 d kept lost (law q)) (enters q (of q).0 d) t
 
-  module _ (f n : ℕ) (w : World) (fate : Fate) (gone : key (done tt) ≡ None) where
-    pub unregistered_reaches : ((j : ℕ) (c : Option ℕ) (i : ℕ) → key (refused j c) ≡ Some i → i ≡ n)
-        → Reaches Nothing (one_file_of f (Some n) drew hooks) w (unregister_of f w fate).exchanges (one_file_of f (key (unregister_of f w fate).answer) drew' hooks) (unregister_of f w fate).world
-    unregistered_reaches left =
-        let t = unregister_touches f w fate in
-        record {
-          files = deleted_keeps key f n w.entries fate gone left t.others;
-          timers = timers_same Nothing [] w.wheel w.wheel refl;
-          enters = (tt, tt);
-          level = t.consistent;
-          most = refl;
-          hooks = refl;
-        }
+    pub registered_reaches : ((n : ℕ) (c : Option ℕ) → key (refused n c) ≡ None) → Sends None (register_of l m w fate)
+    registered_reaches lost =
+        sent_reaches None added (λ q. add_of w.most w.entries q fate) lost (λ q r e. e) (λ q. add_leaves w.most w.entries q fate) (mode_below_of w.lines l.key m) (register_touches l m w fate)
 
-none_left : (n : ℕ) (j : ℕ) (c : Option ℕ) (i : ℕ) → ◌≡◌ {A = Option ℕ} None (Some i) → i ≡ n
-none_left n j c i e = cc
+    pub reregistered_reaches : (n : ℕ) → ((j : ℕ) (c : Option ℕ) → key (refused j c) ≡ Some n) → Sends (Some n) (reregister_of l m w fate)
+    reregistered_reaches n lost =
+        sent_reaches (Some n) modified (λ q. modify_of w.entries q fate) lost (λ q r e. e) (λ q. modify_leaves w.entries q fate) (mode_below_of w.lines l.key m) (reregister_touches l m w fate)
+
+  pub unregistered_reaches : (f n : ℕ) (w : World) (fate : Fate) → key (done tt) ≡ None → ((j : ℕ) (c : Option ℕ) (i : ℕ) → key (refused j c) ≡ Some i → i ≡ n)
+      → Reaches Nothing (one_file_of f (Some n) drew hooks) w (unregister_of f w fate).exchanges (one_file_of f (key (unregister_of f w fate).answer) drew' hooks) (unregister_of f w fate).world
+  unregistered_reaches f n w fate gone left =
+      touched_reaches Nothing f (Some n) _ drew drew' hooks w _ _ _ (deleted_keeps key f n w.entries _ _ gone left (delete_leaves w.entries f fate)) tt (unregister_touches f w fate)
 
 -- the key is forgotten, whatever the poller answers
 pub let_go_reaches : (drew drew' : List ℕ) (hooks : Bool) (f n : ℕ) (w : World) (fate : Fate)
     → Reaches Nothing (one_file_of f (Some n) drew hooks) w (let_go_of f w fate).exchanges (one_file_of f None drew' hooks) (let_go_of f w fate).world
 let_go_reaches drew drew' hooks f n w fate =
-    let t = let_go_touches f w fate in
-    record {
-      files = deleted_keeps (λ r. None) f n w.entries fate refl (none_left n) t.others;
-      timers = timers_same Nothing [] w.wheel w.wheel refl;
-      enters = (tt, tt);
-      level = t.consistent;
-      most = refl;
-      hooks = refl;
-    }
+    touched_reaches Nothing f (Some n) None drew drew' hooks w _ _ _ (deleted_keeps (λ r. None) f n w.entries _ _ refl (λ j c i e. cc) (delete_leaves w.entries f fate)) tt (let_go_touches f w fate)

@@ -1,24 +1,20 @@
 -- The rule of the timers: nothing done, one call after another, and each call of the wheel.
-use Rattle.std.proofs.Common.{◌≡◌, ℕ, ◌+◌, ◌<◌, ◌≤◌, Bool, true, false, ◌⊎◌, List, [], ◌∷◌, filter, sym, refl, ap, ◌∙◌, subst, inl, arith, rules}
+use Rattle.std.proofs.Common.{◌≡◌, ℕ, ◌+◌, ◌<◌, ◌≤◌, Bool, true, false, ◌⊎◌, List, [], ◌∷◌, filter, sym, refl, ap, subst, inl, arith, rules}
 use Rattle.std.proofs.lemmas.Grind.{common_steps}
 use Rattle.token.specs.declared.token.Token.{Token}
 use Rattle.token.specs.Key.{key_of}
 use Rattle.token.specs.Refusal.{Outcome, done, refusal}
 use Rattle.poller.specs.Meaning.{among}
 use Rattle.timer_wheel.specs.declared.timeout.TimeoutData.{TimeoutData}
-use Rattle.timer_wheel.specs.Entries.{cancelled, enter, without}
+use Rattle.timer_wheel.specs.Entries.{cancelled, enter, stays}
 use Rattle.timer_wheel.specs.Wheel.{Wheel, cancel_of, insert_of, reuse_of}
 use Rattle.sys.specs.Laws.{In}
+use Rattle.sys.proofs.Entries.{in_filter}
 use Rattle.rules.specs.Timers.{Timers, foreign}
 
 -- the wheel stays; counters may be forgotten
 pub timers_fewer : (D : ℕ → Type 0) (cs cs' : List ℕ) (t : Wheel) → ((j : ℕ) → In j cs' → In j cs) → Timers D cs t cs' t
-timers_fewer D cs cs' t sub = record {
-  others = refl;
-  only = λ x m. inl m;
-  joins = λ k m. inl (sub k m);
-  forward = omega arith;
-}
+timers_fewer D cs cs' t sub = grind (arith, common_steps, sub)
 
 pub timers_same : (D : ℕ → Type 0) (cs : List ℕ) (t t' : Wheel) → t' ≡ t → Timers D cs t cs t'
 timers_same D cs t t' e = subst (Timers D cs t cs) (sym e) (timers_fewer D cs cs t (λ k m. m))
@@ -45,15 +41,8 @@ kept_within p q h (x ∷ xs) = grind (arith, common_steps, h x, kept_within p q 
 pub timers_then : (D E F : ℕ → Type 0) (cs cs' cs'' : List ℕ) (t t' t'' : Wheel) → ((k : ℕ) → D k → F k) → ((k : ℕ) → E k → F k)
     → Timers D cs t cs' t' → Timers E cs' t' cs'' t'' → Timers F cs t cs'' t''
 timers_then D E F cs cs' cs'' t t' t'' df ef a b =
-    let p = foreign cs t.next in
-    let q = foreign cs' t'.next in
-    let wider = foreign_later cs cs' t.next t'.next a.forward a.joins in
-    record {
-      others = sym (kept_within p q wider t''.timers) ∙ ap (filter p) b.others ∙ kept_within p q wider t'.timers ∙ a.others;
-      only = λ x m. grind (arith, b.only x m, a.only x, df (key_of x.token), ef (key_of x.token));
-      joins = λ k m. grind (arith, b.joins k m, a.joins k, a.forward, b.forward);
-      forward = omega (arith, a.forward, b.forward);
-    }
+    let wider = kept_within (foreign cs t.next) (foreign cs' t'.next) (foreign_later cs cs' t.next t'.next a.forward a.joins) in
+    grind (arith, common_steps, wider t''.timers, wider t'.timers, ap (filter (foreign cs t.next)) b.others, df, ef)
 
 -- THE CALLS OF THE WHEEL
 
@@ -67,21 +56,13 @@ enter_only y x [] m = grind (arith, common_steps)
 enter_only y x (z ∷ xs) m = grind (arith, common_steps, enter_only y x xs)
 
 -- entries with a counter that is not foreign leave
-without_others : (p : TimeoutData → Bool) (k : ℕ) → ((x : TimeoutData) → x.counter ≡ k → p x ≡ false) → (xs : List TimeoutData) → filter p (without k xs) ≡ filter p xs
-without_others p k n [] = refl
-without_others p k n (x ∷ xs) = grind (arith, common_steps, n x, without_others p k n xs)
-
 cancelled_others : (p : TimeoutData → Bool) (k : ℕ) → ((x : TimeoutData) → x.counter ≡ k → p x ≡ false) → (xs : List TimeoutData) → filter p (cancelled k xs) ≡ filter p xs
 cancelled_others p k n [] = refl
-cancelled_others p k n (x ∷ xs) = grind (arith, common_steps, n x, without_others p k n (x ∷ xs))
-
-without_only : (k : ℕ) (x : TimeoutData) (xs : List TimeoutData) → In x (without k xs) → In x xs
-without_only k x [] m = m
-without_only k x (y ∷ xs) m = grind (arith, common_steps, without_only k x xs)
+cancelled_others p k n (x ∷ xs) = grind (arith, common_steps, n x, kept_within p (stays k) (λ y e. grind (arith, common_steps, n y)) (x ∷ xs))
 
 cancelled_only : (k : ℕ) (x : TimeoutData) (xs : List TimeoutData) → In x (cancelled k xs) → In x xs
 cancelled_only k x [] m = m
-cancelled_only k x (y ∷ xs) m = grind (arith, common_steps, without_only k x (y ∷ xs))
+cancelled_only k x (y ∷ xs) m = grind (arith, common_steps, in_filter (stays k) (y ∷ xs) x)
 
 pub cancel_timers : (D : ℕ → Type 0) (cs cs' : List ℕ) (k : ℕ) (t : Wheel) → In k cs → ((j : ℕ) → In j cs' → In j cs) → Timers D cs t cs' (cancel_of k t)
 cancel_timers D cs cs' k t m sub = record {

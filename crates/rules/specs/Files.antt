@@ -1,7 +1,7 @@
 -- What a call of a source may do to the poller's entries.
-use Rattle.std.specs.Prelude.{◌≡◌, ℕ, true, ◌⊎◌, List, Some, None}
+use Rattle.std.specs.Prelude.{◌≡◌, ℕ, true, ◌⊎◌, List, Some, None, nat_eq}
+use Rattle.std.specs.List.{IsDistinct}
 use Rattle.poller.specs.declared.entry.Entry.{Entry}
-use Rattle.poller.specs.Meaning.{Apart}
 use Rattle.poller.specs.Register.{entry_of}
 use Rattle.sys.specs.Laws.{In}
 use Rattle.rules.specs.Meaning.{Held}
@@ -18,7 +18,7 @@ pub record Sound (h : List Held) (o : List ℕ) (es : List Entry) : Type 0 where
   -- each file of its own stands, and is held or stuck
   pub rest : (f : ℕ) → In f o → (e : Entry) × (entry_of f es ≡ Some e) × (In (record { file = f; key = e.key }) h ⊎ (e.stuck ≡ true))
   -- none is its own twice
-  pub once : Apart o
+  pub once : IsDistinct nat_eq o
 
 -- A call took a source that held `h` over the entries `es` to one that holds `h'` over `es'`.
 -- `Drew` says which keys the call's factory gave.

@@ -7,7 +7,7 @@ use Rattle.token.specs.Refusal.{Outcome, done, refused}
 use Rattle.poller.specs.declared.entry.Readiness.{Readiness}
 use Rattle.poller.specs.Meaning.{Answer}
 use Rattle.sys.specs.Laws.{Consistent, In}
-use Rattle.sys.specs.World.{World, Exchange, added, deleted, modified, read, with_timers}
+use Rattle.sys.specs.World.{World, Exchange, added, modified, read, with_timers}
 use Rattle.rules.specs.Files.{Keeps}
 use Rattle.rules.specs.Meaning.{Drawer, Drawn, Forward, Meaning, Nothing}
 use Rattle.rules.specs.Timers.{Timers}
@@ -16,8 +16,7 @@ use Rattle.rules.specs.Timers.{Timers}
 abbrev pub Enters : (ℕ → Type 0) → Exchange → Type 0
 Enters Drew (added q r) = Drew q.key
 Enters Drew (modified q r) = Drew q.key
-Enters Drew (deleted f r) = Unit {0}
-Enters Drew (read n) = Unit {0}
+Enters Drew x = Unit {0}
 
 -- what a call that reaches the polling system does there
 pub record Reaches (Drew : ℕ → Type 0) (m : Meaning) (w : World) (xs : List Exchange) (m' : Meaning) (w' : World) : Type 0 where
@@ -61,14 +60,12 @@ pub record LettingGo (m : Meaning) (w : World) (xs : List Exchange) (m' : Meanin
 
 -- a source with other counters
 abbrev pub with_counters : Meaning → List ℕ → Meaning
-with_counters m cs = record { held = m.held; entered = m.entered; drew = m.drew; counters = cs; hooks = m.hooks }
+with_counters m cs = record m { counters = cs }
 
 -- only the clock was asked
 abbrev pub Reads : Exchange → Type 0
-Reads (added q r) = ⊥
-Reads (modified q r) = ⊥
-Reads (deleted f r) = ⊥
 Reads (read n) = Unit {0}
+Reads x = ⊥
 
 -- what was asked for stands behind what was asked for before
 abbrev pub Grown : {X : Type 0} → List X → List X → Type 0

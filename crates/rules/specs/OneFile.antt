@@ -1,14 +1,13 @@
 -- A source with one file and, once it is registered, a key.
-use Rattle.std.specs.Prelude.{ℕ, Bool, List, [], ◌∷◌, Some, None, Option}
+use Rattle.std.specs.Prelude.{ℕ, Bool, List, [], Option}
+use Rattle.std.specs.Option.{option_map, option_to_list}
 use Rattle.rules.specs.Meaning.{Held, Meaning}
 
 abbrev pub under : ℕ → Option ℕ → List Held
-under f (Some k) = record { file = f; key = k } ∷ []
-under f None = []
+under f k = option_to_list (option_map (λ n. record { file = f; key = n }) k)
 
 abbrev pub own_files : ℕ → Option ℕ → List ℕ
-own_files f (Some k) = f ∷ []
-own_files f None = []
+own_files f k = option_to_list (option_map (λ n. f) k)
 
 -- it holds the file under the key, and drew these keys
 abbrev pub one_file_of : ℕ → Option ℕ → List ℕ → Bool → Meaning

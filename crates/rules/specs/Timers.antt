@@ -1,5 +1,5 @@
 -- What a call of a source may do to the timers.
-use Rattle.std.specs.Prelude.{◌≡◌, ℕ, ◌<◌, ◌≤◌, Bool, false, cond, ◌⊎◌, List, filter, nat_lt}
+use Rattle.std.specs.Prelude.{◌≡◌, ℕ, ◌<◌, ◌≤◌, Bool, not, ◌&&◌, ◌⊎◌, List, filter, nat_lt}
 use Rattle.token.specs.Key.{key_of}
 use Rattle.poller.specs.Meaning.{among}
 use Rattle.timer_wheel.specs.declared.timeout.TimeoutData.{TimeoutData}
@@ -8,7 +8,7 @@ use Rattle.sys.specs.Laws.{In}
 
 -- another source's timer: its counter was given out before the call, and is none of the source's own
 abbrev pub foreign : List ℕ → ℕ → TimeoutData → Bool
-foreign cs n x = cond (among x.counter cs) false (nat_lt x.counter n)
+foreign cs n x = not (among x.counter cs) && nat_lt x.counter n
 
 -- the source's counters went from `cs` to `cs'`, and the wheel from `t` to `t'`
 pub record Timers (Drew : ℕ → Type 0) (cs : List ℕ) (t : Wheel) (cs' : List ℕ) (t' : Wheel) : Type 0 where

@@ -45,8 +45,7 @@ after_first rest f after q s =
 
 -- a file, then a space
 back_step : (after more : List ℕ) → after ≡ 32 ∷ more → (hs : List ℕ) → Files hs → after ≡ spaced_on hs ++ codes "))" → SomeFiles more
-back_step after more e [] fit is =
-    let z : ◌≡◌ {A = ℕ} 32 41 = cc in absurd (omega arith)
+back_step after more e [] fit is = absurd (grind arith)
 back_step after more e (h ∷ hs) fit is =
     let t : (decimal h ++ spaced_on hs) ++ codes "))" ≡ more = cc in
     record { first = h; others = hs; lists = record { fits = fit; is = t } }

@@ -21,10 +21,6 @@ after_number text m r p n c s f d e = number_unique text m n r (c ∷ s) p (reco
 pub after_file : (text : List ℕ) (m : ℕ) (r : List ℕ) → Number 32 text m r → (n c : ℕ) (s : List ℕ) → n < 2 ^ 32 → (Digit c → ⊥) → decimal n ++ (c ∷ s) ≡ text → (m ≡ n) × (r ≡ c ∷ s)
 after_file text m r p n c s f d e = after_number text m r (wider text m r p) n c s (omega arith) d e
 
--- equal lines have one letter
-same_letter : (l m : ℕ) (s t : List ℕ) → ◌≡◌ {A = List ℕ} (40 ∷ (l ∷ s)) (40 ∷ (m ∷ t)) → l ≡ m
-same_letter l m s t e = cc
-
 -- (T d p)
 
 pub record TimerLine (text : List ℕ) (g : Plain) : Type 0 where
@@ -39,8 +35,8 @@ pub timer_line : (text : List ℕ) (g : Plain) → Writes g (codes "(T " ++ text
 timer_line text (timer d p) w =
     let e = w.is in
     record { deadline = d; period = p; is = refl; deadline_fits = w.fits.0; period_fits = w.fits.1; reads = cc }
-timer_line text (generic f a) w = absurd (omega (arith, same_letter 71 84 _ _ w.is))
-timer_line text (wait c fs) w = absurd (omega (arith, same_letter 87 84 _ _ w.is))
+timer_line text (generic f a) w = absurd (grind (arith, w.is))
+timer_line text (wait c fs) w = absurd (grind (arith, w.is))
 
 pub timer_no_deadline : (text : List ℕ) → NoNumber 64 text → NoForm (codes "(T " ++ text)
 timer_no_deadline text h g w =
@@ -84,11 +80,11 @@ pub record GenericLine (text : List ℕ) (g : Plain) : Type 0 where
   pub reads : decimal file ++ (32 ∷ (letter_of action ∷ (41 ∷ []))) ≡ text
 
 pub generic_line : (text : List ℕ) (g : Plain) → Writes g (codes "(G " ++ text) → GenericLine text g
-generic_line text (timer d p) w = absurd (omega (arith, same_letter 84 71 _ _ w.is))
+generic_line text (timer d p) w = absurd (grind (arith, w.is))
 generic_line text (generic f a) w =
     let e = w.is in
     record { file = f; action = a; is = refl; file_fits = w.fits; reads = cc }
-generic_line text (wait c fs) w = absurd (omega (arith, same_letter 87 71 _ _ w.is))
+generic_line text (wait c fs) w = absurd (grind (arith, w.is))
 
 pub generic_no_file : (text : List ℕ) → NoNumber 32 text → NoForm (codes "(G " ++ text)
 generic_no_file text h g w =
@@ -124,8 +120,8 @@ pub record WaitLine (text : List ℕ) (g : Plain) : Type 0 where
   pub reads : decimal clock ++ (32 ∷ (40 ∷ end)) ≡ text
 
 pub wait_line : (text : List ℕ) (g : Plain) → Writes g (codes "(W " ++ text) → WaitLine text g
-wait_line text (timer d p) w = absurd (omega (arith, same_letter 84 87 _ _ w.is))
-wait_line text (generic f a) w = absurd (omega (arith, same_letter 71 87 _ _ w.is))
+wait_line text (timer d p) w = absurd (grind (arith, w.is))
+wait_line text (generic f a) w = absurd (grind (arith, w.is))
 wait_line text (wait c fs) w =
     let e = w.is in
     record {

@@ -1,8 +1,7 @@
 -- A line is of one form.
-use Rattle.std.proofs.Common.{◌≡◌, ℕ, ◌^◌, ◌<◌, cond, eqb, List, [], ◌∷◌, ◌++◌, length, codes, decimal, sym, refl, ap, ◌∙◌, arith}
+use Rattle.std.proofs.Common.{◌≡◌, ℕ, ◌^◌, ◌<◌, List, [], ◌∷◌, ◌++◌, length, codes, decimal, sym, refl, ap, ◌∙◌, arith}
 use Rattle.std.proofs.lemmas.Fmt.{digits_decimal, decimal_nonempty, decimal_injective}
 use Rattle.post_action.specs.declared.PostAction.{PostAction}
-use Rattle.post_action.specs.declared.PostAction.TheVariants.{Continue, Reregister, Disable, Remove}
 use Rattle.script.specs.Number.{Digit}
 use Rattle.script.specs.Line.{Plain, timer, generic, wait, letter_of, Files, spaced, spaced_on, Lists, Writes, TheForm}
 use Rattle.script.proofs.Reading.{own, cut, wider, number_unique}
@@ -16,18 +15,8 @@ same_number m n c r s f g d e =
     let t = p.1 in
     (decimal_injective m n f g p.0, cc)
 
-action_of : ℕ → PostAction
-action_of l = cond (eqb l 67) Continue (cond (eqb l 82) Reregister (cond (eqb l 68) Disable Remove))
-
-action_back : (a : PostAction) → action_of (letter_of a) ≡ a
-unfolding action_of
-action_back Continue = refl
-action_back Reregister = refl
-action_back Disable = refl
-action_back Remove = refl
-
 same_action : (a b : PostAction) → letter_of a ≡ letter_of b → a ≡ b
-same_action a b e = sym (action_back a) ∙ (ap action_of e ∙ action_back b)
+same_action a b e = grind arith
 
 -- brackets are no list of one file or more
 brackets_none : (g : ℕ) (gs : List ℕ) → Lists (g ∷ gs) (41 ∷ (41 ∷ [])) → ⊥
@@ -42,8 +31,8 @@ same_first f g fs gs text l k =
 
 same_on : (fs gs : List ℕ) → Files fs → Files gs → spaced_on fs ++ codes "))" ≡ spaced_on gs ++ codes "))" → fs ≡ gs
 same_on [] [] p q e = refl
-same_on [] (g ∷ gs) p q e = let z : ◌≡◌ {A = ℕ} 41 32 = cc in absurd (omega arith)
-same_on (f ∷ fs) [] p q e = let z : ◌≡◌ {A = ℕ} 32 41 = cc in absurd (omega arith)
+same_on [] (g ∷ gs) p q e = absurd (grind arith)
+same_on (f ∷ fs) [] p q e = absurd (grind arith)
 same_on (f ∷ fs) (g ∷ gs) p q e =
     let t : (decimal f ++ spaced_on fs) ++ codes "))" ≡ (decimal g ++ spaced_on gs) ++ codes "))" = cc in
     let s = same_first f g fs gs _ (record { fits = p; is = t }) (record { fits = q; is = refl }) in

@@ -1,5 +1,6 @@
 -- The lines of a script: a form as plain values, and the line that it is.
 use Rattle.std.specs.Prelude.{◌≡◌, ℕ, ◌^◌, ◌<◌, List, [], ◌∷◌, ◌++◌, vec_items, codes, decimal, Option, MatchOption}
+use Rattle.std.specs.List.{AllByRecursion, flat_map}
 use Rattle.post_action.specs.declared.PostAction.{PostAction}
 use Rattle.post_action.specs.declared.PostAction.TheVariants.{Continue, Reregister, Disable, Remove}
 use Rattle.script.specs.declared.Form.{Form}
@@ -11,7 +12,7 @@ pub data Plain : Type 0 where
   generic : ℕ → PostAction → Plain
   wait : ℕ → List ℕ → Plain
 
--- the code's form as plain values
+-- The code's form as plain values: not the form itself, whose files are a Vec, which no definition can make.
 abbrev pub plain : Form → Plain
 plain (Timer d p) = timer d p
 plain (Generic f a) = generic f a
@@ -19,8 +20,7 @@ plain (Wait c fs) = wait c (vec_items fs)
 
 -- each file has at most 32 bits
 abbrev pub Files : List ℕ → Type 0
-Files [] = Unit {0}
-Files (f ∷ fs) = (f < 2 ^ 32) × Files fs
+Files = AllByRecursion (λ f. f < 2 ^ 32)
 
 -- each number fits its type
 abbrev pub Fits : Plain → Type 0
@@ -37,8 +37,7 @@ letter_of Remove = 88
 
 -- each file after a space
 abbrev pub spaced_on : List ℕ → List ℕ
-spaced_on [] = []
-spaced_on (f ∷ fs) = codes " " ++ (decimal f ++ spaced_on fs)
+spaced_on = flat_map (λ f. codes " " ++ decimal f)
 
 -- the files, with a space between two of them
 abbrev pub spaced : List ℕ → List ℕ

@@ -2,15 +2,13 @@
 use Rattle.std.proofs.Common.{◌≡◌, ℕ, List, Option, Result, MutBor, refl}
 use Rattle.std.specs.Fn.{Once}
 use Rattle.token.specs.declared.error.Error.{Error}
-use Rattle.token.specs.Refusal.{Outcome, done, outcome, refused}
+use Rattle.token.specs.Refusal.{outcome}
 use Rattle.poller.specs.declared.entry.Entry.{Entry}
 use Rattle.poller.specs.declared.entry.Event.{Event}
-use Rattle.poller.specs.declared.entry.Mode.{Mode}
 use Rattle.poller.specs.declared.poller.Poller.{Ghosts as PollerOf}
 use Rattle.poller.specs.Meaning.{Answer, By, Fate, Waited, add_of, modify_of, delete_of}
 use Rattle.poller.specs.declared.entry.Request.{Request}
-use Rattle.levels.specs.declared.table.Line.{Line}
-use Rattle.sys.specs.Polling.{State, AsksBy, Registers, Sent, mode_below_of, request}
+use Rattle.sys.specs.Polling.{AsksBy}
 
 module _ {P : Type 0} (poller : PollerOf P) where
   -- a call came out as the definition says, and leaves the poller its room
@@ -32,12 +30,3 @@ module _ {P : Type 0} (poller : PollerOf P) where
 module _ {F P : Type 0} (g : Once F (MutBor P × (Request × Unit {0})) (Result (Unit {0}) Error × (MutBor P × Unit {0}))) (f : F) where
   pub asks_so : (x x' : MutBor P) (q : Request) (a : Result (Unit {0}) Error) → g.post f (x, (q, tt)) (a, (x', tt)) → AsksBy g f x.now q (outcome a) x'.now
   asks_so x x' q a h = record { shown = x; shows = refl; left = x'; leaves = refl; result = a; answers = refl; met = h }
-
-  -- a registration by a call that is passed on is one by what that call asks
-  pub registers_by : {C : Type 0} (asks : P → Request → Answer → P → Type 0) (l : Line) (m : Mode) (s : State P C) (r : Answer) (s' : State P C) → Registers (AsksBy g f) l m s r s'
-      → ((x x' : MutBor P) (q : Request) (a : Result (Unit {0}) Error) → g.post f (x, (q, tt)) (a, (x', tt)) → asks x.now q (outcome a) x'.now) → Registers asks l m s r s'
-  registers_by {C} asks l m s r s' h means = at (mode_below_of s.lines l.key m) h
-    where
-      at : (o : Outcome Mode) → Sent (AsksBy g f) o l m s r s' → Sent asks o l m s r s'
-      at (refused n c) w = w
-      at (done b) w = let i = w.0 in (simp (← i.shows, ← i.answers, ← i.leaves) (means i.shown i.left (request l b) i.result i.met), w.1)

@@ -1,87 +1,68 @@
 -- Each call of the polling system as the world sees it.
-use Rattle.std.proofs.Common.{◌≡◌, ℕ, List, [], ◌∷◌, ◌++◌, None, Option, sym, refl, ap, ◌∙◌, subst}
+use Rattle.std.proofs.Common.{◌≡◌, ℕ, List, [], ◌∷◌, ◌++◌, Option, Ok, sym, refl, subst, arith}
 use Rattle.token.specs.Refusal.{Outcome, done, refused}
 use Rattle.poller.specs.declared.entry.Entry.{Entry}
 use Rattle.poller.specs.declared.entry.Mode.{Mode}
 use Rattle.poller.specs.declared.poller.Poller.{Ghosts as PollerOf}
-use Rattle.poller.specs.Meaning.{Answer, Fate, works, add_of, modify_of, delete_of}
+use Rattle.poller.specs.Meaning.{Answer, Fate, add_of, modify_of, delete_of}
 use Rattle.poller.specs.declared.entry.Request.{Request}
 use Rattle.levels.specs.declared.table.Line.{Line}
-use Rattle.levels.specs.Table.{dropped, entered}
 use Rattle.sys.specs.declared.clock.Clock.{Ghosts as ClockOf}
 use Rattle.sys.specs.declared.poll.Poll.{Poll}
 use Rattle.sys.specs.Laws.{Touches, TouchesFile}
-use Rattle.sys.specs.Polling.{State, Registers, Sent, Unregisters, LetsGo, lines_after, mode_below_of, request, state_of, with_lines, with_poller}
-use Rattle.sys.specs.World.{World, CameTo, Come, Exchange, Exchanged, Asked, Comes, added, deleted, modified, read, let_go_of, register_of, reregister_of, sent, unregister_of, with_table, world_of}
+use Rattle.sys.specs.Polling.{Registers, Sent, Unregisters, LetsGo, mode_below_of, request, state_of, with_lines, with_poller}
+use Rattle.sys.specs.World.{World, CameTo, Come, Exchange, Exchanged, Asked, Comes, added, deleted, forgotten, given_up, modified, noted, read, let_go_of, register_of, reregister_of, sent, unregister_of, with_table, world_of}
 use Rattle.sys.proofs.Lawful.{Adding, Came, Deleting, Modifying}
 
 module _ {P C : Type 0} (poller : PollerOf P) (clock : ClockOf C) where
-  abbrev plain : State P C → World
-  plain s = record { entries = poller.entries s.poller; most = poller.most s.poller; lines = s.lines; wheel = s.wheel }
+  module _ (s s' : Poll P C) where
+    -- the poller and the lines changed, and nothing else
+    new_table : (ls : Option (List Line)) → state_of s' ≡ with_lines (with_poller (state_of s) s'.poller) ls → poller.most s'.poller ≡ poller.most s.poller
+        → world_of poller s' ≡ with_table (world_of poller s) (poller.entries s'.poller) ls
+    new_table ls e k = grind (arith, e)
 
-  abbrev Spoke : State P C → State P C → List Exchange → Type 0
-  Spoke s s' xs = Asked poller clock xs s.poller s.clock s'.poller s'.clock
+    -- the poller answered one question with `a`, and the call comes to what its answer and its entries come to
+    abbrev CameBy : (Answer × List Entry → Come) → Answer → Answer × List Entry → Type 0
+    CameBy come r a = (r ≡ (come a).answer) × (world_of poller s' ≡ (come a).world) × Exchanged poller clock (come a).exchanges s s'
 
-  -- one question changed the poller and the lines, and nothing else
-  one_answer : (s s' : State P C) (ls : Option (List Line)) (es : List Entry) → s' ≡ with_lines (with_poller s s'.poller) ls
-      → poller.entries s'.poller ≡ es → poller.most s'.poller ≡ poller.most s.poller → plain s' ≡ with_table (plain s) es ls
-  one_answer s s' ls es e q k = cc (ap (λ (x : State P C). x.lines) e, ap (λ (x : State P C). x.wheel) e)
+    one_question : (of : Fate → Answer × List Entry) (come : Answer × List Entry → Come) (r a : Answer) → Came poller of s.poller a s'.poller → CameBy come r (a, poller.entries s'.poller)
+        → Comes (λ fate. come (of fate)) r (world_of poller s') (λ xs. Exchanged poller clock xs s s')
+    one_question of come r a h b = let w = subst (CameBy come r) h.0.1 b in record { fate = h.0.0; answer = w.0; world = w.1; exchanged = w.2 }
 
-  -- add and modify alike
-  module _ (l : Line) (m : Mode) (s : State P C) (r : Answer) (s' : State P C) (asks : P → Request → Answer → P → Type 0) (asked : Request → Answer → Exchange) (of : Request → Fate → Answer × List Entry)
-      (law : (q : Request) → asks s.poller q r s'.poller → Came poller (of q) s.poller r s'.poller)
-      (said : (q : Request) (a : Answer) → asks s.poller q a s'.poller → s'.clock ≡ s.clock → Spoke s s' (asked q a ∷ [])) where
-    sent_plain : (o : Outcome Mode) → Sent asks o l m s r s' → Comes (λ fate. sent asked (λ q. of q fate) o l m (plain s)) r (plain s') (Spoke s s')
-    sent_plain (refused n c) w = record { fate = works; answer = w.0; world = ap plain w.1; exchanged = (ap (λ (x : State P C). x.poller) w.1, ap (λ (x : State P C). x.clock) w.1) }
-    sent_plain (done b) w =
+    -- add and modify alike
+    sent_plain : (asks : P → Request → Answer → P → Type 0) (asked : Request → Answer → Exchange) (of : Request → Fate → Answer × List Entry) (l : Line) (m : Mode) (r : Answer)
+        → ((q : Request) → asks s.poller q r s'.poller → Came poller (of q) s.poller r s'.poller)
+        → ((q : Request) → asks s.poller q r s'.poller → s'.clock ≡ s.clock → Exchanged poller clock (asked q r ∷ []) s s')
+        → (o : Outcome Mode) → Sent asks o l m (state_of s) r (state_of s')
+        → Comes (λ fate. sent asked (λ q. of q fate) o l m (world_of poller s)) r (world_of poller s') (λ xs. Exchanged poller clock xs s s')
+    sent_plain asks asked of l m r law said (refused n c) w = record { fate = Ok tt; answer = w.0; world = grind (arith, w.1); exchanged = record { asked = grind (arith, w.1) } }
+    sent_plain asks asked of l m r law said (done b) w =
         let f = law (request l b) w.0 in
-        let a = of (request l b) f.0.0 in
-        let e : r ≡ a.0 = ap (λ (x : Answer × List Entry). x.0) f.0.1 in record {
-          fate = f.0.0;
-          answer = e;
-          world = one_answer s s' _ a.1 w.1 (ap (λ (x : Answer × List Entry). x.1) f.0.1) f.1 ∙ ap (λ (x : Answer). with_table (plain s) a.1 (lines_after x (entered l m) s.lines)) e;
-          exchanged = subst (λ (x : Answer). Spoke s s' (asked (request l b) x ∷ [])) e (said (request l b) r w.0 (ap (λ (x : State P C). x.clock) w.1));
-        }
-
-  -- the same between polling systems
-  spoken : (of : World → Fate → Come) {r : Answer} (s s' : Poll P C) → Comes (of (world_of poller s)) r (world_of poller s') (Spoke (state_of s) (state_of s')) → CameTo poller clock of s r s'
-  spoken of s s' h = record { fate = h.fate; answer = h.answer; world = h.world; exchanged = record { asked = h.exchanged } }
+        one_question (of (request l b)) (noted l m (world_of poller s) (asked (request l b))) r r f (refl, new_table _ w.1 f.1, said (request l b) w.0 (grind (arith, w.1)))
 
   module _ (l : Line) (m : Mode) (s : Poll P C) (r : Answer) (s' : Poll P C) where
     pub registers_plain : Adding poller → Registers poller.adds l m (state_of s) r (state_of s') → CameTo poller clock (register_of l m) s r s'
     registers_plain law h =
-        spoken (register_of l m) s s' (sent_plain l m (state_of s) r (state_of s') poller.adds added (λ q fate. add_of (poller.most s.poller) (poller.entries s.poller) q fate) (λ q. law s.poller q r s'.poller)
-        (λ q a w k. (s'.poller, w, (refl, k))) (mode_below_of (state_of s).lines l.key m) h)
+        sent_plain s s' poller.adds added (λ q fate. add_of (poller.most s.poller) (poller.entries s.poller) q fate) l m r (λ q. law s.poller q r s'.poller)
+        (λ q w k. record { asked = (s'.poller, w, (refl, k)) }) (mode_below_of s.level_triggered l.key m) h
 
     pub reregisters_plain : Modifying poller → Registers poller.modifies l m (state_of s) r (state_of s') → CameTo poller clock (reregister_of l m) s r s'
     reregisters_plain law h =
-        spoken (reregister_of l m) s s' (sent_plain l m (state_of s) r (state_of s') poller.modifies modified (λ q fate. modify_of (poller.entries s.poller) q fate) (λ q. law s.poller q r s'.poller)
-        (λ q a w k. (s'.poller, w, (refl, k))) (mode_below_of (state_of s).lines l.key m) h)
+        sent_plain s s' poller.modifies modified (λ q fate. modify_of (poller.entries s.poller) q fate) l m r (λ q. law s.poller q r s'.poller)
+        (λ q w k. record { asked = (s'.poller, w, (refl, k)) }) (mode_below_of s.level_triggered l.key m) h
 
   module _ (law : Deleting poller) (f : ℕ) (s : Poll P C) where
     pub unregisters_plain : (r : Answer) (s' : Poll P C) → Unregisters poller f (state_of s) r (state_of s') → CameTo poller clock (unregister_of f) s r s'
     unregisters_plain r s' h =
         let w = law s.poller f r s'.poller h.0 in
-        let a = delete_of (poller.entries s.poller) f w.0.0 in
-        let e : r ≡ a.0 = ap (λ (x : Answer × List Entry). x.0) w.0.1 in
-        spoken (unregister_of f) s s' (record {
-          fate = w.0.0;
-          answer = e;
-          world = one_answer (state_of s) (state_of s') _ a.1 h.1 (ap (λ (x : Answer × List Entry). x.1) w.0.1) w.1 ∙ ap (λ (x : Answer). with_table (world_of poller s) a.1 (lines_after x (dropped f None) s.level_triggered)) e;
-          exchanged = (s'.poller, subst (λ (x : Answer). poller.deletes s.poller f x s'.poller) e h.0, (refl, ap (λ (x : State P C). x.clock) h.1));
-        })
+        one_question s s' (delete_of (poller.entries s.poller) f) (forgotten f (world_of poller s)) r r w
+        (refl, new_table s s' _ h.1 w.1, record { asked = (s'.poller, h.0, (refl, grind (arith, h.1))) })
 
     pub lets_go_plain : (s' : Poll P C) → LetsGo poller f (state_of s) (state_of s') → CameTo poller clock (let_go_of f) s (done tt) s'
     lets_go_plain s' h =
         let w = law s.poller f h.0 s'.poller h.1 in
-        let a = delete_of (poller.entries s.poller) f w.0.0 in
-        let e : h.0 ≡ a.0 = ap (λ (x : Answer × List Entry). x.0) w.0.1 in
-        spoken (let_go_of f) s s' (record {
-          fate = w.0.0;
-          answer = refl;
-          world = one_answer (state_of s) (state_of s') _ a.1 h.2 (ap (λ (x : Answer × List Entry). x.1) w.0.1) w.1;
-          exchanged = (s'.poller, subst (λ (x : Answer). poller.deletes s.poller f x s'.poller) e h.1, (refl, ap (λ (x : State P C). x.clock) h.2));
-        })
+        one_question s s' (delete_of (poller.entries s.poller) f) (given_up f (world_of poller s)) (done tt) h.0 w
+        (refl, new_table s s' _ h.2 w.1, record { asked = (s'.poller, h.1, (refl, grind (arith, h.2))) })
 
   -- what a call touches by every fate, it touched
   pub came_touches : (of : World → Fate → Come) (f : ℕ) (s : Poll P C) (r : Answer) (s' : Poll P C)

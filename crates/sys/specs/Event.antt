@@ -1,7 +1,8 @@
 -- The events of the loop: where each comes from, and how a class is printed.
-use Rattle.std.specs.Prelude.{ℕ, true, false, List, codes}
+use Rattle.std.specs.Prelude.{ℕ, false, List, codes}
 use Rattle.token.specs.Key.{token_of}
 use Rattle.poller.specs.declared.entry.Event.{Event}
+use Rattle.poller.specs.declared.entry.TheConstants.Readiness.{READ}
 use Rattle.timer_wheel.specs.declared.timeout.TimeoutData.{TimeoutData}
 use Rattle.sys.specs.declared.event.Class.{Class}
 use Rattle.sys.specs.declared.event.Class.TheVariants.{Synthetic, Polled, Timer}
@@ -13,7 +14,7 @@ polled v = record { class = Polled; readiness = record { readable = v.readable; 
 
 -- a timer that is due, as an event of the loop
 abbrev pub rung : TimeoutData → PollEvent
-rung x = record { class = Timer; readiness = record { readable = true; writable = false; error = false }; token = x.token }
+rung x = record { class = Timer; readiness = READ; token = x.token }
 
 -- the letter of a class in the sheets
 abbrev pub letter_of : Class → List ℕ

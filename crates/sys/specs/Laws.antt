@@ -1,9 +1,9 @@
 -- What callers of the polling system may lean on, in place of the text of its calls.
-use Rattle.std.specs.Prelude.{◌≡◌, ℕ, true, false, ◌⊎◌, List, [], ◌∷◌, map, Some, None, Option, ◌≢◌}
+use Rattle.std.specs.Prelude.{◌≡◌, ℕ, true, ◌⊎◌, List, [], ◌∷◌, map, Some, Option, ◌≢◌, IfSome}
 use Rattle.poller.specs.declared.entry.Entry.{Entry}
 use Rattle.poller.specs.declared.entry.Mode.TheVariants.{OneShot}
 use Rattle.poller.specs.declared.poller.Poller.{Ghosts as PollerOf}
-use Rattle.poller.specs.Register.{entry_of}
+use Rattle.poller.specs.Register.{disarmed, entry_of}
 use Rattle.levels.specs.declared.table.Line.{Line}
 use Rattle.levels.specs.Table.{line_of}
 use Rattle.token.specs.Key.{key_of}
@@ -24,8 +24,7 @@ pub record Agrees (l : Line) (e : Entry) : Type 0 where
 
 -- THE LEVEL TABLE AGREES WITH THE POLLER: a line for a key names a file whose entry, if it stands, has that key
 abbrev pub Consistent : List Entry → Option (List Line) → Type 0
-Consistent es None = Unit {0}
-Consistent es (Some ls) = (l : Line) → In l ls → (e : Entry) → entry_of l.file es ≡ Some e → Agrees l e
+Consistent es t = IfSome t (λ ls. (l : Line) → In l ls → (e : Entry) → entry_of l.file es ≡ Some e → Agrees l e)
 
 -- entries under other files than f stand as they did
 abbrev pub Untouched : ℕ → List Entry → List Entry → Type 0
@@ -40,19 +39,14 @@ pub record Touches (f : ℕ) (es : List Entry) (ls : Option (List Line)) (es' : 
 abbrev pub TouchesFile : {P C : Type 0} → PollerOf P → ℕ → Poll P C → Poll P C → Type 0
 TouchesFile poller f s s' = Touches f (poller.entries s.poller) s.level_triggered (poller.entries s'.poller) s'.level_triggered
 
--- the entry but for whether it is armed
-abbrev pub unarmed : Entry → Entry
-unarmed e = record e { armed = false }
-
 -- a wait changes nothing of the entries but which are armed, and the level table stays
 pub record Wakeful (es : List Entry) (ls : Option (List Line)) (es' : List Entry) (ls' : Option (List Line)) : Type 0 where
-  pub same : Consistent es ls → map unarmed es' ≡ map unarmed es
+  pub same : Consistent es ls → map disarmed es' ≡ map disarmed es
   pub consistent : Consistent es ls → Consistent es' ls'
   pub lines : ls' ≡ ls
 
 -- each reported key that has a line is armed again: the entry of the line's file, if it stands, is armed
 abbrev pub Rearmed : Option (List Line) → List PollEvent → List Entry → Type 0
-Rearmed None vs es = Unit {0}
-Rearmed (Some ls) vs es =
-    (v : PollEvent) → In v vs → v.class ≡ Polled → (l : Line) → line_of (key_of v.token) ls ≡ Some l
-    → (e : Entry) → entry_of l.file es ≡ Some e → e.armed ≡ true
+Rearmed t vs es =
+    IfSome t (λ ls. (v : PollEvent) → In v vs → v.class ≡ Polled → (l : Line) → line_of (key_of v.token) ls ≡ Some l
+    → (e : Entry) → entry_of l.file es ≡ Some e → e.armed ≡ true)

@@ -1,6 +1,6 @@
 -- The polling system as plain values, and what each of its calls comes to.
 -- What the poller and the clock answer is free; each answer comes with the word of the one who gave it.
-use Rattle.std.specs.Prelude.{◌≡◌, ℕ, Bool, true, false, cond, List, [], ◌∷◌, ◌++◌, map, Some, None, Option, Result}
+use Rattle.std.specs.Prelude.{◌≡◌, ℕ, Bool, true, false, if◌then◌else◌, List, [], ◌∷◌, ◌++◌, map, Some, None, Option, Result}
 use Rattle.std.specs.Borrow.{MutBor}
 use Rattle.std.specs.Fn.{Once}
 use Rattle.std.specs.Option.{option_map}
@@ -32,11 +32,11 @@ pub record State (P C : Type 0) : Type 0 where
   -- the level table, where one stands
   pub lines : Option (List Line)
 
--- a function and no model: the world below names the bound's members, which a model's value cannot
+-- a function and no model: private calls read what the poller reported last, which stands in no state
 abbrev pub state_of : {P C : Type 0} → Poll P C → State P C
 state_of s = record { poller = s.poller; clock = s.clock; wheel = wheel_of s.timers; lines = s.level_triggered }
 
--- a state with another poller, clock, wheel or table
+-- a state with another poller, clock, wheel or table, by name, as clauses and laws say it
 abbrev pub with_poller : {P C : Type 0} → State P C → P → State P C
 with_poller s p = record s { poller = p }
 
@@ -53,7 +53,7 @@ with_lines s ls = record s { lines = ls }
 abbrev pub mode_below_of : Option (List Line) → ℕ → Mode → Outcome Mode
 mode_below_of None k m = done m
 mode_below_of (Some ls) k Edge = refusal 21
-mode_below_of (Some ls) k Level = cond (full_for k ls) (refusal 20) (done OneShot)
+mode_below_of (Some ls) k Level = if full_for k ls then refusal 20 else done OneShot
 mode_below_of (Some ls) k OneShot = done OneShot
 
 -- the line of a registration

@@ -6,4 +6,4 @@ use Rattle.sys.specs.declared.setting.Setting.{Setting}
 
 -- the entries stay, and so does what the setting leaves out
 abbrev pub set_by : Setting → BenchView → BenchView
-set_by s v = record { entries = v.entries; ready = unwrap_or (option_map vec_items s.ready) v.ready; steps = unwrap_or (option_map vec_items s.plan) v.steps }
+set_by s v = record v { ready = unwrap_or (option_map vec_items s.ready) v.ready; steps = unwrap_or (option_map vec_items s.plan) v.steps }

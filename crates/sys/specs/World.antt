@@ -22,6 +22,7 @@ pub record World : Type 0 where
   pub lines : Option (List Line)
   pub wheel : Wheel
 
+-- a function and no model: it names the members of the poller's bound, which a model's value cannot
 abbrev pub world_of : {P C : Type 0} → PollerOf P → Poll P C → World
 world_of poller s = record { entries = poller.entries s.poller; most = poller.most s.poller; lines = s.level_triggered; wheel = wheel_of s.timers }
 
@@ -59,7 +60,8 @@ module _ {P C : Type 0} (poller : PollerOf P) (clock : ClockOf C) where
 
 -- CALLS
 
--- the answer of a call, the world after it, and what was asked for it
+-- The answer of a call, the world after it, and what was asked for it.
+-- Not `Went` of `rules`, which has a source besides: none is known here.
 pub record Come : Type 0 where
   pub answer : Answer
   pub world : World

@@ -1,5 +1,5 @@
 // Registration: what a source asks of the poller and the timers.
-ghost use Rattle.std.specs.Prelude.{◌≡◌, [], IfOk, None};
+ghost use Rattle.std.specs.Prelude.{◌≡◌, IfOk, None};
 ghost use Rattle.token.specs.Refusal.{Done, done, outcome};
 ghost use Rattle.timer_wheel.specs.Wheel.{cancel_of, empty, insert_of, reuse_of};
 ghost use Rattle.levels.specs.Table.{dropped, entered};

@@ -2,7 +2,7 @@
 ghost use Rattle.std.specs.Prelude.{◌≡◌, ℕ, ◌≤◌, [], ◌++◌, map, vec_len};
 ghost use Rattle.token.specs.Refusal.{done, outcome};
 ghost use Rattle.timer_wheel.specs.Laws.{due_by, rest};
-ghost use Rattle.timer_wheel.specs.Wheel.{first_deadline, wheel_of};
+ghost use Rattle.timer_wheel.specs.Wheel.{first_deadline};
 ghost use Rattle.sys.specs.Event.{polled, rung};
 ghost use Rattle.sys.specs.Laws.{Rearmed, Wakeful};
 ghost use Rattle.sys.specs.Polling.{Polls, Rearms, RearmsIn, state_of, with_clock, with_poller, with_wheel};
@@ -14,23 +14,7 @@ use crate::poll::Poll;
 use crate::registering::to_request;
 use levels::Levels;
 use poller::{Events, Mode, Poller, Readiness};
-use timer_wheel::TimerWheel;
 use token::Error;
-
-// Takes the timers that are due, by rising deadline.
-fn take_due(timers: &mut TimerWheel, clock: u64, events: &mut PollEvents)
-    requires { vec_len events.old.items ≤ 256 }
-    ensures items { events.new.items.items ≡ events.old.items.items ++ map rung (due_by clock (wheel_of timers.old).timers) }
-    ensures wheel { wheel_of timers.new ≡ rest clock (wheel_of timers.old) }
-{
-    while let Some((_, token)) = timers.next_expired(clock) {
-        events.items.push_reserved(PollEvent {
-            class: Class::Timer,
-            readiness: Readiness::READ,
-            token,
-        });
-    }
-}
 
 // A modify in OneShot mode for each event whose key has a line, up to the first that fails.
 fn arm_again<P: Poller>(poller: &mut P, levels: &Levels, events: &Events) -> Result<(), Error>
@@ -82,8 +66,7 @@ impl<P: Poller, C: Clock> Poll<P, C> {
     // What the poller reported, as events of the loop.
     fn hand_out(&self, events: &mut PollEvents)
         requires { events.old.items.items ≡ [] }
-        ensures items { events.new.items.items ≡ map polled self.now.events.items.items }
-        ensures few { vec_len events.new.items ≤ 256 }
+        ensures { events.new.items.items ≡ map polled self.now.events.items.items }
     {
         // `extend` may allocate, and the memory is reserved.
         for event in self.events.items.iter() {
@@ -102,12 +85,19 @@ impl<P: Poller, C: Clock> Poll<P, C> {
         }
     }
 
-    // Takes the timers that are due by a fresh reading of the clock.
+    // Takes the timers that are due by a fresh reading of the clock, by rising deadline.
+    // What the poller reported leaves room for each of them.
     fn take_expired(&mut self, events: &mut PollEvents)
         requires { vec_len events.old.items ≤ 256 }
         ensures { (clock : ℕ) × C.Clock.reads self.old.clock clock self.new.clock × (events.new.items.items ≡ events.old.items.items ++ map rung (due_by clock (state_of self.old).wheel.timers)) × (state_of self.new ≡ with_wheel (with_clock (state_of self.old) self.new.clock) (rest clock (state_of self.old).wheel)) }
     {
         let clock = self.clock.now();
-        take_due(&mut self.timers, clock, events);
+        while let Some((_, token)) = self.timers.next_expired(clock) {
+            events.items.push_reserved(PollEvent {
+                class: Class::Timer,
+                readiness: Readiness::READ,
+                token,
+            });
+        }
     }
 }

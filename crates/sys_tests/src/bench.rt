@@ -1,5 +1,5 @@
 // Over the bench poller, which has no level mode.
-use crate::world::token;
+use crate::world::{count, token};
 use poller::{BenchPoller, Interest, Mode, Step};
 use std::alloc::{AllocError, Global};
 use std::test::Fail;
@@ -13,17 +13,14 @@ fn new_poll(heap: Global) -> Result<Bench, AllocError> {
     Poll::new(heap, poller, SetClock { time: 0 })
 }
 
-// Makes the files ready, and answers how many events a wait brings.
-fn count(heap: Global, poll: &mut Bench, files: &[u32], time: u64) -> Result<usize, Fail> {
+// The files are ready at that time.
+fn ready_at(heap: Global, files: &[u32], time: u64) -> Result<Setting, AllocError> {
     let ready = Some(files.to_vec(heap)?);
-    poll.arrange(&mut Setting {
+    Ok(Setting {
         time,
         ready,
         plan: None,
-    });
-    let mut events = PollEvents::new(heap)?;
-    poll.poll(None, &mut events)?;
-    Ok(events.items.len())
+    })
 }
 
 #[test]
@@ -38,11 +35,11 @@ fn level_is_armed_again(rt: HostRuntime) -> Result<(), Fail> {
         poll.register(8, Interest::READ, Mode::OneShot, token(1)),
         Ok(())
     );
-    assert_eq!(rt; count(heap, &mut poll, &[7, 8], 0)?, 2);
-    assert_eq!(rt; count(heap, &mut poll, &[8, 7], 0)?, 1);
-    assert_eq!(rt; count(heap, &mut poll, &[7], 0)?, 1);
+    assert_eq!(rt; count(heap, &mut poll, ready_at(heap, &[7, 8], 0)?)?, 2);
+    assert_eq!(rt; count(heap, &mut poll, ready_at(heap, &[8, 7], 0)?)?, 1);
+    assert_eq!(rt; count(heap, &mut poll, ready_at(heap, &[7], 0)?)?, 1);
     assert_eq!(rt; poll.unregister(7), Ok(()));
-    assert_eq!(rt; count(heap, &mut poll, &[7], 0)?, 0);
+    assert_eq!(rt; count(heap, &mut poll, ready_at(heap, &[7], 0)?)?, 0);
     Ok(())
 }
 
@@ -68,8 +65,8 @@ fn failed_arming_loses_the_wait(rt: HostRuntime) -> Result<(), Fail> {
     assert_eq!(rt; poll.poll(None, &mut events), Err(Error::PollerFailed(4)));
     assert_eq!(rt; events.items.len(), 3);
     // Only the first was armed again, and the timer was not taken.
-    assert_eq!(rt; count(heap, &mut poll, &[0, 1, 2], 4)?, 1);
-    assert_eq!(rt; count(heap, &mut poll, &[], 5)?, 1);
+    assert_eq!(rt; count(heap, &mut poll, ready_at(heap, &[0, 1, 2], 4)?)?, 1);
+    assert_eq!(rt; count(heap, &mut poll, ready_at(heap, &[], 5)?)?, 1);
     Ok(())
 }
 
@@ -131,11 +128,11 @@ fn clock_may_run_backwards(rt: HostRuntime) -> Result<(), Fail> {
     let heap = rt.alloc();
     let mut poll = new_poll(heap)?;
     assert_eq!(rt; poll.insert_timer(50, token(0)), Ok(0));
-    assert_eq!(rt; count(heap, &mut poll, &[], 49)?, 0);
-    assert_eq!(rt; count(heap, &mut poll, &[], 50)?, 1);
+    assert_eq!(rt; count(heap, &mut poll, ready_at(heap, &[], 49)?)?, 0);
+    assert_eq!(rt; count(heap, &mut poll, ready_at(heap, &[], 50)?)?, 1);
     assert_eq!(rt; poll.reuse_timer(0, 40, token(0)), Ok(()));
-    assert_eq!(rt; count(heap, &mut poll, &[], 30)?, 0);
+    assert_eq!(rt; count(heap, &mut poll, ready_at(heap, &[], 30)?)?, 0);
     poll.cancel_timer(0);
-    assert_eq!(rt; count(heap, &mut poll, &[], 60)?, 0);
+    assert_eq!(rt; count(heap, &mut poll, ready_at(heap, &[], 60)?)?, 0);
     Ok(())
 }

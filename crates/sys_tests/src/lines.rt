@@ -1,18 +1,9 @@
 // Over the line poller, which has level mode.
-use crate::world::{Lines, token};
+use crate::world::{Lines, count, token};
 use poller::{Interest, LinePoller, Mode};
-use std::alloc::Global;
 use std::test::Fail;
-use sys::{Poll, PollEvents, SetClock};
+use sys::{Poll, SetClock};
 use token::Error;
-
-// Sets the lines, and answers how many events a wait brings.
-fn count(heap: Global, poll: &mut Poll<LinePoller, SetClock>, lines: u64) -> Result<usize, Fail> {
-    poll.arrange(&mut Lines { lines });
-    let mut events = PollEvents::new(heap)?;
-    poll.poll(None, &mut events)?;
-    Ok(events.items.len())
-}
 
 #[test]
 fn modes_go_down_as_they_are(rt: HostRuntime) -> Result<(), Fail> {
@@ -35,9 +26,9 @@ fn modes_go_down_as_they_are(rt: HostRuntime) -> Result<(), Fail> {
         poll.register(64, Interest::READ, Mode::Level, token(3)),
         Err(Error::PollerFailed(9))
     );
-    assert_eq!(rt; count(heap, &mut poll, 7)?, 3);
-    assert_eq!(rt; count(heap, &mut poll, 7)?, 1);
-    assert_eq!(rt; count(heap, &mut poll, 0)?, 0);
-    assert_eq!(rt; count(heap, &mut poll, 3)?, 2);
+    assert_eq!(rt; count(heap, &mut poll, Lines { lines: 7 })?, 3);
+    assert_eq!(rt; count(heap, &mut poll, Lines { lines: 7 })?, 1);
+    assert_eq!(rt; count(heap, &mut poll, Lines { lines: 0 })?, 0);
+    assert_eq!(rt; count(heap, &mut poll, Lines { lines: 3 })?, 2);
     Ok(())
 }

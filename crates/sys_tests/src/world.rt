@@ -1,6 +1,8 @@
-// What a test does to the line poller, and the tokens of the tests.
-use poller::LinePoller;
-use sys::{Environment, SetClock};
+// What the tests do to a poller and its clock, and their tokens.
+use poller::{LinePoller, Poller};
+use std::alloc::Global;
+use std::test::Fail;
+use sys::{Environment, Poll, PollEvents, SetClock};
 use token::Token;
 
 // The lines that the firmware sets.
@@ -13,6 +15,18 @@ impl Environment<LinePoller, SetClock> for Lines {
     fn arrange(&mut self, poller: &mut LinePoller, _clock: &mut SetClock) {
         poller.set_lines(self.lines);
     }
+}
+
+// Lets the world change, and answers how many events a wait brings.
+pub fn count<P: Poller, E: Environment<P, SetClock> + Drop>(
+    heap: Global,
+    poll: &mut Poll<P, SetClock>,
+    mut world: E,
+) -> Result<usize, Fail> {
+    poll.arrange(&mut world);
+    let mut events = PollEvents::new(heap)?;
+    poll.poll(None, &mut events)?;
+    Ok(events.items.len())
 }
 
 // The first token of a slot at version 0.

@@ -5,10 +5,11 @@ use Rattle.token.specs.Refusal.{Outcome, done}
 use Rattle.post_action.specs.declared.PostAction.{PostAction}
 use Rattle.post_action.specs.declared.PostAction.TheVariants.{Continue}
 use Rattle.sys.specs.World.{Exchange, World}
+use Rattle.rules.specs.Calls.{went}
 use Rattle.kinds.specs.declared.errand.Errand.{Errand}
 use Rattle.alarm.specs.declared.alarm.Registration.{Registration}
 use Rattle.alarm.specs.declared.alarm.TimeoutAction.{TimeoutAction}
-use Rattle.alarm.specs.Calls.{Awaits, rang, rung_by}
+use Rattle.alarm.specs.Calls.{Awaits, rung_by}
 use Rattle.timer.specs.declared.timer.Timer.{Timer}
 
 module _ {H : Type 0} (rings : H → ℕ → List Errand → TimeoutAction → H → List Errand → Type 0) (s : Timer H) (t : Token) (es : List Errand) (w : World) where
@@ -20,12 +21,12 @@ module _ {H : Type 0} (rings : H → ℕ → List Errand → TimeoutAction → H
     pub action : TimeoutAction
     pub now : ℕ
     pub rung : rings s.handler deadline es action s'.handler es'
-    pub is : rang xs r s'.alarm w' ≡ rung_by s.alarm registration action now w
+    pub is : went xs r s'.alarm w' ≡ rung_by s.alarm registration action now w
 
   -- any other gets Continue, and the handler is not called
   pub record Other (xs : List Exchange) (r : Outcome PostAction) (s' : Timer H) (w' : World) (es' : List Errand) : Type 0 where
     pub none : (x : Registration) (d : ℕ) → Awaits s.alarm t x d → ⊥
-    pub is : rang xs r s' w' ≡ rang [] (done Continue) s w
+    pub is : went xs r s' w' ≡ went [] (done Continue) s w
     pub errands : es' ≡ es
 
   abbrev pub Rung : List Exchange → Outcome PostAction → Timer H → World → List Errand → Type 0

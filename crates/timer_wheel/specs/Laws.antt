@@ -34,7 +34,7 @@ Drains n w (a ∷ rs) v = (u : Wheel) × (expired_of n w ≡ (Some a, u)) × Dra
 
 -- what is left when all that is due by the instant is gone
 abbrev pub rest : ℕ → Wheel → Wheel
-rest n w = record { timers = due_after n w.timers; next = w.next }
+rest n w = record w { timers = due_after n w.timers }
 
 -- taking comes to an end, and takes exactly what is due, by rising deadline, in the order in which it stands
 pub record Exact (n : ℕ) (w : Wheel) : Type 0 where

@@ -1,6 +1,7 @@
 // The wheel and its calls. Only `new` allocates.
-ghost use Rattle.std.specs.Prelude.{◌≡◌, ◌≤◌, ◌<◌, drop, IfOk, OnOk, vec_len};
+ghost use Rattle.std.specs.Prelude.{◌≡◌, ◌≤◌, ◌<◌, drop, IfOk, OnOk, slice_get, vec_len};
 ghost use Rattle.std.specs.Vec.{vec_ptr};
+ghost use Rattle.bounded.specs.Room.{HasRoom};
 ghost use Rattle.token.specs.Refusal.{outcome};
 ghost use Rattle.timer_wheel.specs.Entries.{Rising};
 
@@ -19,11 +20,10 @@ pub struct TimerWheel {
     // the counter of the next insertion
     pub(crate) counter: u32,
     ghost rising: { Rising entries.items.items },
-    ghost small: { counter ≤ 4294967295 },
 }
 
 impl TimerWheel {
-    ghost use Rattle.timer_wheel.specs.Entries.{earliest, enter, without};
+    ghost use Rattle.timer_wheel.specs.Entries.{enter, without};
     ghost use Rattle.timer_wheel.specs.Laws.{Exact, Joins};
     ghost use Rattle.timer_wheel.specs.Wheel.{cancel_of, empty, expired_of, first_deadline, insert_of, reuse_of, wheel_of};
 
@@ -103,14 +103,15 @@ impl TimerWheel {
     }
 
     fn first(&self) -> Option<TimeoutData>
-        ensures { result ≡ earliest self.now.entries.items.items }
+        ensures { result ≡ slice_get self.now.entries.items.items 0 }
     {
         self.entries.items.first().copied()
     }
 
     // The newcomer stands behind every entry that is due no later. There is room, so this does not allocate.
+    // That the counter stays is said of three private calls: a struct for the list would be made for that clause alone.
     fn enter(&mut self, entry: TimeoutData)
-        requires { vec_len self.old.entries.items < 256 }
+        requires { HasRoom self.old.entries }
         ensures items { self.new.entries.items.items ≡ enter entry self.old.entries.items.items }
         ensures joins { Joins entry self.old.entries.items.items self.new.entries.items.items }
         ensures in_place { vec_ptr self.new.entries.items ≡ vec_ptr self.old.entries.items }

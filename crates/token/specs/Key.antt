@@ -1,5 +1,5 @@
 -- Tokens and their keys.
-use Rattle.std.specs.Prelude.{◌≡◌, ℕ, ◌+◌, ◌*◌, ◌/◌, ◌%◌, ◌^◌, Bool, false, cond, ◌==◌}
+use Rattle.std.specs.Prelude.{◌≡◌, ℕ, ◌+◌, ◌*◌, ◌/◌, ◌%◌, ◌^◌, Bool, ◌&&◌, ◌==◌}
 use Rattle.token.specs.declared.token.Token.{Token}
 
 abbrev pub key_of : Token → ℕ
@@ -15,12 +15,12 @@ pub record Keyed (t : Token) (k : ℕ) : Type 0 where
 
 -- of one slot at one version
 abbrev pub same_source : Token → Token → Bool
-same_source s t = cond (s.id == t.id) (s.version == t.version) false
+same_source s t = s.id == t.id && s.version == t.version
 
 -- version 65,535 is followed by 0
 abbrev pub next_version : Token → Token
-next_version t = record { id = t.id; version = (t.version + 1) % 2 ^ 16; sub_id = 0 }
+next_version t = record t { version = (t.version + 1) % 2 ^ 16; sub_id = 0 }
 
 -- the token of the whole source, whose sub-id is 0
 abbrev pub own_source : Token → Token
-own_source t = record { id = t.id; version = t.version; sub_id = 0 }
+own_source t = record t { sub_id = 0 }

@@ -27,29 +27,12 @@ number_of LevelFull = 20
 number_of NoEdge = 21
 
 abbrev pub code_of : Error → Option ℕ
-code_of InvalidToken = None
-code_of Busy = None
-code_of AlreadyEnabled = None
-code_of NoSlot = None
-code_of IdleFull = None
-code_of NoSpare = None
-code_of BadForm = None
-code_of SubIdsSpent = None
-code_of ErrandsFull = None
 code_of (SourceFailed code) = Some code
-code_of Exists = None
-code_of NotFound = None
-code_of PollerFull = None
 code_of (PollerFailed code) = Some code
-code_of Interrupted = None
-code_of TimersFull = None
-code_of TimersSpent = None
-code_of LifecycleFull = None
-code_of SyntheticFull = None
-code_of LevelFull = None
-code_of NoEdge = None
+code_of e = None
 
 -- What a call answered: its value, or a refusal by its number and its code. Every promise of a refusal is put by it.
+-- No `Result T Error`: the number and the code that `number_of` and `code_of` give are the promise.
 pub data Outcome (T : Type 0) : Type 0 where
   done : T → Outcome T
   refused : ℕ → Option ℕ → Outcome T

@@ -2,6 +2,7 @@
 ghost use Rattle.std.specs.Prelude.{◌≡◌};
 ghost use Rattle.token.specs.Refusal.{number_of, code_of};
 
+// No `Display`: doorbench alone prints a refusal, as its number, and the contracts need `number` anyway.
 #[derive(Clone, Copy, PartialEq, Eq, Debug)]
 pub enum Error {
     InvalidToken,

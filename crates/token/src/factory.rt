@@ -1,45 +1,45 @@
 // Draws the tokens of one registration.
-ghost use Rattle.std.specs.Prelude.{◌≡◌, ◌≤◌};
+ghost use Rattle.std.specs.Prelude.{◌≡◌};
 ghost use Rattle.token.specs.Drawing.{draw_of};
+ghost use Rattle.token.specs.Key.{own_source};
 ghost use Rattle.token.specs.Refusal.{outcome};
 
 use crate::error::Error;
 use crate::token::Token;
+use std::marker::Model;
 
 #[derive(Drop)]
 pub struct TokenFactory {
-    pub id: u32,
-    pub version: u16,
-    // the sub-id of the next token
-    pub next: u16,
-    ghost small: { next ≤ 65535 },
+    pub(crate) next_token: Token,
+}
+
+// A factory is the token that it draws next.
+impl Model for TokenFactory {
+    ghost use Rattle.token.specs.declared.token.Token.{Token};
+
+    ghost Value = { Token };
+
+    ghost view = { λ f. f.next_token };
 }
 
 impl TokenFactory {
     // A factory of the slot and version that the token names, with every sub-id left. No `From`: the name is calloop's.
     pub fn new(token: Token) -> TokenFactory
-        ensures { (result.id ≡ token.id) × (result.version ≡ token.version) × (result.next ≡ 0) }
+        ensures { result ≡ own_source token }
     {
         TokenFactory {
-            id: token.id,
-            version: token.version,
-            next: 0,
+            next_token: token.forget_sub_id(),
         }
     }
 
     pub fn token(&mut self) -> Result<Token, Error>
-        ensures same { (self.new.id ≡ self.old.id) × (self.new.version ≡ self.old.version) }
-        ensures draws { (outcome result, self.new.next) ≡ draw_of self.old.id self.old.version self.old.next }
+        ensures { (outcome result, self.new) ≡ draw_of self.old }
     {
-        if self.next == 65_535 {
+        let token = self.next_token;
+        if token.sub_id == 65_535 {
             return Err(Error::SubIdsSpent);
         }
-        let sub_id = self.next;
-        self.next = sub_id + 1;
-        Ok(Token {
-            id: self.id,
-            version: self.version,
-            sub_id,
-        })
+        self.next_token.sub_id = token.sub_id + 1;
+        Ok(token)
     }
 }

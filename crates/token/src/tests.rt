@@ -36,5 +36,5 @@ fn factory_ends(rt: HostRuntime) {
         );
     }
     assert_eq!(rt; factory.token(), Err(Error::SubIdsSpent));
-    assert_eq!(rt; factory.next, 65_535);
+    assert_eq!(rt; factory.next_token.sub_id, 65_535);
 }

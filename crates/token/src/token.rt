@@ -40,9 +40,7 @@ impl From<Token> for u64 {
     ghost from_gives = { λ token key. Keyed token key };
 
     fn from(token: Token) -> u64 {
-        u64::from(token.id) * 4_294_967_296
-            + u64::from(token.version) * 65_536
-            + u64::from(token.sub_id)
+        (u64::from(token.id) << 32) + (u64::from(token.version) << 16) + u64::from(token.sub_id)
     }
 }
 
@@ -51,9 +49,9 @@ impl From<u64> for Token {
 
     fn from(key: u64) -> Token {
         Token {
-            id: (key / 4_294_967_296) as u32,
-            version: (key / 65_536 % 65_536) as u16,
-            sub_id: (key % 65_536) as u16,
+            id: (key >> 32) as u32,
+            version: (key >> 16 & 0xffff) as u16,
+            sub_id: (key & 0xffff) as u16,
         }
     }
 }

@@ -1,7 +1,9 @@
-use Rattle.std.proofs.Common.{rules, []}
-use Rattle.poller.specs.Meaning.{works}
+use Rattle.std.proofs.Common.{rules, [], Ok}
 use Rattle.one_file.proofs.one_file.OneFile.reregister.Goals as goal
 
--- the poller was not asked
+-- The poller was not asked, so any fate will do, and the search names none; each call has a goal of its own.
 pub returns-in_err-tickets : goal.returns-in_err-tickets
-returns-in_err-tickets g c = ([], search rules, (works, search rules))
+returns-in_err-tickets g c = ([], search rules, (Ok tt, search rules))
+
+pub returns-then-is_none : goal.returns-then-is_none
+returns-then-is_none g c = ([], search rules, (Ok tt, search rules))

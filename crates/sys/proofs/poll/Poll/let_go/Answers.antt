@@ -5,6 +5,7 @@ use Rattle.sys.proofs.Locality.{let_go_touches}
 use Rattle.sys.proofs.Plain.{came_touches, lets_go_plain}
 use Rattle.sys.proofs.poll.Poll.let_go.Goals as goal
 
+-- As the answer of `unregister`: the goals of the two are of no one record that a lemma could take.
 pub returns : goal.returns
 returns g c =
     let p = g.P.Poller in

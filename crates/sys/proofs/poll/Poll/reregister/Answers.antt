@@ -1,17 +1,17 @@
-use Rattle.std.proofs.Common.{rules}
+use Rattle.std.proofs.Common.{arith}
+use Rattle.std.proofs.lemmas.Grind.{common_steps}
 use Rattle.token.specs.Refusal.{outcome}
 use Rattle.sys.specs.Polling.{Registers, line_for, state_of}
 use Rattle.sys.specs.World.{reregister_of}
-use Rattle.sys.proofs.Lawful.{registers_by}
 use Rattle.sys.proofs.Locality.{reregister_touches}
 use Rattle.sys.proofs.Plain.{came_touches, reregisters_plain}
 use Rattle.sys.proofs.poll.Poll.reregister.Goals as goal
 
+-- As the answer of `register`: the goals of the two are of no one record that a lemma could take.
 pub returns : goal.returns
 returns g c =
     let p = g.P.Poller in
     let line = line_for c.args.file c.args.interest c.args.token in
-    let asked = registers_by _ _ p.modifies _ c.args.mode (state_of c.args.self.now) _ (state_of c.send.new.self) c.send.ensures (λ x x' b a h. search rules) in
-    let i : Registers p.modifies line c.args.mode (state_of c.args.self.now) (outcome c.send.result) (state_of c.send.new.self) = search (rules, asked) in
-    let came = reregisters_plain p g.C.Clock line c.args.mode c.args.self.now _ c.send.new.self g.met.P.Poller.modifying i in
+    let i : Registers p.modifies line c.args.mode (state_of c.args.self.now) (outcome c.send.result) (state_of c.send.new.self) = grind (arith, common_steps, c.send.ensures) in
+    let came = reregisters_plain p g.C.Clock line c.args.mode c.args.self.now (outcome c.send.result) c.send.new.self g.met.P.Poller.modifying i in
     record { is = i; plain = came; touches = came_touches p g.C.Clock (reregister_of line c.args.mode) c.args.file _ _ _ (reregister_touches line c.args.mode) came }

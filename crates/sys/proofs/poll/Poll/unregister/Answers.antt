@@ -3,6 +3,7 @@ use Rattle.sys.proofs.Locality.{unregister_touches}
 use Rattle.sys.proofs.Plain.{came_touches, unregisters_plain}
 use Rattle.sys.proofs.poll.Poll.unregister.Goals as goal
 
+-- As the answer of `let_go`: the goals of the two are of no one record that a lemma could take.
 pub returns : goal.returns
 returns g c =
     let p = g.P.Poller in
