@@ -31,6 +31,7 @@ wheel_after r t = option_map_or (λ (x : Registration). cancel_of x.counter t) r
 abbrev pub meaning : Alarm → Meaning
 meaning s = record { held = []; entered = []; drew = keys_of s.registration; counters = counters_of s.registration; hooks = false }
 
+-- an alarm with another registration or deadline, by name, as clauses and laws say it
 abbrev pub with_registration : Alarm → Option Registration → Alarm
 with_registration s r = record s { registration = r }
 

@@ -10,6 +10,9 @@ use std::alloc::{AllocError, Global};
 mod tests;
 
 // At most `N` items. Only `new` allocates. No model: its users push in place, and read `room` and `few`.
+// Not `arrayvec::ArrayVec`: its `new` and its removals ask for a value for the empty places, its `push` and its
+// removals for items that can be dropped, which the loop does not ask of a source, and its places lie in the value
+// itself, so that 1,024 slots would move with it.
 #[derive(Drop)]
 pub struct Bounded<T, const N: usize> {
     pub items: Vec<T>,

@@ -35,7 +35,8 @@ impl<P: Poller, C: Clock, S: EventSource> LoopInner<P, C, S> {
     }
 }
 
-// Notes events whose turn never comes. What is answered then is said where the fault arose.
+// Notes events whose turn never comes, one by one, since `extend` may allocate. A function of its own, for faults
+// in a turn, in the hooks' turns and in the wait; each of the three answers its own fault.
 fn lose(events: &[PollEvent], sheet: &mut Sheet)
     requires { vec_len sheet.old.items + length events.now ≤ 640 }
     ensures { sheet.new.items.items ≡ sheet.old.items.items ++ map (line_of Lost) events.now }

@@ -46,6 +46,7 @@ impl<A: EventSource, B: EventSource> EventSource for Either<A, B> {
 
     ghost seeing = { Prim.search rules };
 
+    // There is no delegation, so each call is named.
     fn register<P: Poller, C: Clock>(
         &mut self,
         poll: &mut Poll<P, C>,

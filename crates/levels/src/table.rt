@@ -15,7 +15,8 @@ pub struct Line {
 }
 
 // Contracts see the lines, in the order in which they were entered.
-// A list and no map, whose entries would be allocated one by one.
+// A list and no map: a HashMap leaves the order of its entries open, a BTreeMap allocates as it grows, and lines go
+// by their file as well as by their key, which an IndexMap would search by hand too.
 #[derive(Drop)]
 pub struct Levels {
     pub(crate) lines: Bounded<Line, 256>,

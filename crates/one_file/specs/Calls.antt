@@ -34,6 +34,7 @@ module _ {T : Type 0} where
   abbrev pub meaning : TicketsOf T → OneFile T → Bool → Meaning
   meaning tickets s hooks = one_file_of s.file (option_map (λ (t : T). key_of (tickets.main t)) s.tickets) (keys_in tickets.keys s.tickets) hooks
 
+  -- a source with other tickets, by name, as clauses and laws say it
   abbrev pub with_tickets : OneFile T → Option T → OneFile T
   with_tickets s t = record s { tickets = t }
 

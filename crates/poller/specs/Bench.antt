@@ -1,5 +1,6 @@
 -- The poller of the test bench, over plain values.
 use Rattle.std.specs.Prelude.{ℕ, if◌then◌else◌, List, [], ◌∷◌, ◌++◌, drop, get_or, Some, Ok, Err, vec_items, fold}
+use Rattle.std.specs.VecDeque.{deque_items}
 use Rattle.token.specs.Refusal.{refusal, refused}
 use Rattle.poller.specs.declared.entry.Entry.{Entry}
 use Rattle.poller.specs.declared.entry.Event.{Event}
@@ -21,7 +22,7 @@ pub record BenchView : Type 0 where
 
 -- a function and no model: the laws read the table's facts
 abbrev pub bench_of : BenchPoller → BenchView
-bench_of p = record { entries = entries_of p.table; ready = vec_items p.ready; steps = vec_items p.steps }
+bench_of p = record { entries = entries_of p.table; ready = vec_items p.ready; steps = deque_items p.steps }
 
 -- a call past the end of the plan works
 abbrev pub step_of : List Step → Step
@@ -36,7 +37,8 @@ fate_by s = Ok tt
 abbrev pub stepped : BenchView → BenchView
 stepped v = record v { steps = drop 1 v.steps }
 
--- of this view; the other poller's is of its own record
+-- a name, since `leaving` and `reporting` take the change as a function; one for each poller, since a change is of one
+-- record's fields
 abbrev pub with_entries : BenchView → List Entry → BenchView
 with_entries v es = record v { entries = es }
 

@@ -37,7 +37,8 @@ pub record LinesSet (v : LineView) (n : ℕ) (v' : LineView) : Type 0 where
 abbrev pub line_fate : ℕ → Fate
 line_fate f = if nat_lt f 64 then Ok tt else Err 9
 
--- of this view; the other poller's is of its own record
+-- a name, since `leaving` and `reporting` take the change as a function; one for each poller, since a change is of one
+-- record's fields
 abbrev pub with_entries : LineView → List Entry → LineView
 with_entries v es = record v { entries = es }
 

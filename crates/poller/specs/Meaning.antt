@@ -57,7 +57,7 @@ pub record Tells (es : List Entry) (f : ℕ) (v : Event) : Type 0 where
   pub reads : v.readable ≡ true → entry.interest.readable ≡ true
   pub writes : v.writable ≡ true → entry.interest.writable ≡ true
 
--- a test and no proposition, since `told` computes by it
+-- a test and no proposition, as `In` of `sys` is, since `told` computes by it
 abbrev pub among : ℕ → List ℕ → Bool
 among f = list_any (nat_eq f)
 

@@ -13,6 +13,7 @@ use crate::events::Events;
 use crate::poller::Poller;
 use crate::table::Table;
 use std::alloc::{AllocError, Global};
+use std::collections::VecDeque;
 use token::Error;
 
 // What one call comes to: three outcomes and no other; a Result<(), Error> would let in refusals that no poller may give.
@@ -28,8 +29,8 @@ pub struct BenchPoller {
     pub(crate) table: Table<256>,
     // the files that are ready, in the order of the script
     pub(crate) ready: Vec<u32>,
-    // what the next calls come to, in the list that was handed over, which a queue would copy
-    pub(crate) steps: Vec<Step>,
+    // what the next calls come to
+    pub(crate) steps: VecDeque<Step>,
 }
 
 impl BenchPoller {
@@ -40,7 +41,7 @@ impl BenchPoller {
         Ok(BenchPoller {
             table,
             ready: Vec::new(heap),
-            steps: Vec::new(heap),
+            steps: VecDeque::new(heap),
         })
     }
 
@@ -55,17 +56,14 @@ impl BenchPoller {
     pub fn plan(&mut self, steps: Vec<Step>)
         ensures { bench_of self.new ≡ record (bench_of self.old) { steps = steps.items } }
     {
-        self.steps = steps;
+        self.steps = VecDeque::from(steps);
     }
 
     fn next_step(&mut self) -> Step
         ensures value { result ≡ step_of (bench_of self.old).steps }
         ensures after { bench_of self.new ≡ stepped (bench_of self.old) }
     {
-        if self.steps.is_empty() {
-            return Step::Work;
-        }
-        self.steps.remove(0)
+        self.steps.pop_front().unwrap_or(Step::Work)
     }
 
     // Whether the next call works; an Err is the code with which it fails.
@@ -105,7 +103,7 @@ fn report(table: &mut Table<256>, ready: &[u32], events: &mut Events)
     ensures entries { entries_of table.new ≡ map (told (reported (entries_of table.old) ready.now)) (entries_of table.old) }
     ensures events { events.new.items.items ≡ events_of (entries_of table.old) (reported (entries_of table.old) ready.now) }
 {
-    // a mark for each place of the table: a set of files would allocate
+    // a mark for each place, since `find` gives an entry's place; a set made for one wait would allocate
     let mut told = [false; 256];
     for file in ready {
         consider(table, *file, &mut told, events);

@@ -9,7 +9,8 @@ use bounded::Bounded;
 use std::alloc::{AllocError, Global};
 use token::Error;
 
-// At most `N` entries, with distinct files. A list and no map, whose entries would be allocated one by one.
+// At most `N` entries, with distinct files. A list and no map: contracts say the order of the entries, which a
+// HashMap leaves open; a BTreeMap allocates as it grows; an IndexMap would hold each file twice, as key and in its entry.
 #[derive(Drop)]
 pub struct Table<const N: usize> {
     pub(crate) entries: Bounded<Entry, N>,

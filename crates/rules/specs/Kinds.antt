@@ -58,7 +58,7 @@ pub record LettingGo (m : Meaning) (w : World) (xs : List Exchange) (m' : Meanin
   pub drew : (k : ℕ) → In k m'.drew → In k m.drew
   pub free : Free m'
 
--- a source with other counters
+-- a source with other counters, by name, as clauses and laws say it
 abbrev pub with_counters : Meaning → List ℕ → Meaning
 with_counters m cs = record m { counters = cs }
 

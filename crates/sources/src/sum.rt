@@ -7,6 +7,7 @@ use sys::{Clock, Poll, PollEvent};
 use token::{Error, Token, TokenFactory};
 
 impl<A: EventSource, B: EventSource> EventSource for Either<A, B> {
+    // There is no delegation, so each call is named.
     fn register<P: Poller, C: Clock>(
         &mut self,
         poll: &mut Poll<P, C>,

@@ -28,6 +28,7 @@ impl<H: TimerHandler> Timer<H> {
 }
 
 impl<H: TimerHandler + Drop> EventSource for Timer<H> {
+    // The calls for its deadline are those of Alarm: there is no delegation, so each is named.
     fn register<P: Poller, C: Clock>(
         &mut self,
         poll: &mut Poll<P, C>,

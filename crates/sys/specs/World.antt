@@ -26,7 +26,7 @@ pub record World : Type 0 where
 abbrev pub world_of : {P C : Type 0} → PollerOf P → Poll P C → World
 world_of poller s = record { entries = poller.entries s.poller; most = poller.most s.poller; lines = s.level_triggered; wheel = wheel_of s.timers }
 
--- the same world with other entries and lines, or with another wheel
+-- the same world with other entries and lines, or with another wheel, by name, as clauses and laws say it
 abbrev pub with_table : World → List Entry → Option (List Line) → World
 with_table w es ls = record w { entries = es; lines = ls }
 

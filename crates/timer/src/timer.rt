@@ -69,6 +69,7 @@ impl<H: TimerHandler + Copy> EventSource for Timer<H> {
 
     ghost seeing = { Prim.search rules };
 
+    // The calls for its deadline are those of Alarm: there is no delegation, so each is named.
     fn register<P: Poller, C: Clock>(
         &mut self,
         poll: &mut Poll<P, C>,
