@@ -4,11 +4,13 @@ ghost use Rattle.doorbench.specs.Answer.{dispatch_text, insert_text, refusal_tex
 
 use crate::bench::{Bench, Fixed, Repeat, Source};
 use event_loop::{InsertError, Line};
+use generic::Generic;
+use kinds::{Either, EventSource};
 use poller::{Interest, Mode};
 use script::Form;
-use sources::{Either, EventSource, Generic, Timer};
 use std::alloc::AllocError;
 use sys::{Environment, Setting};
+use timer::Timer;
 use token::{Error, Token};
 
 // Does what the line asks for, and writes the answer.

@@ -7,9 +7,9 @@ mod bench;
 use answer::perform;
 use bench::Bench;
 use event_loop::EventLoop;
+use kinds::EventSource;
 use poller::BenchPoller;
 use script::read_line;
-use sources::EventSource;
 use std::io::{BufRead, BufReader, BufWriter, Read, Write};
 use sys::SetClock;
 

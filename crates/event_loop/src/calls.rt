@@ -2,10 +2,10 @@
 ghost use Rattle.std.specs.Prelude.{◌≡◌, [], IfOk};
 
 use crate::inner::{InsertError, LoopInner, Registry};
+use kinds::{Errands, EventSource};
 use list::{Lifecycle, SourceList};
 use poller::Poller;
 use post_action::PostAction;
-use sources::EventSource;
 use std::alloc::{AllocError, Global};
 use sys::{Clock, Poll};
 use token::{Error, Token};
@@ -19,11 +19,13 @@ impl<P: Poller, C: Clock, S: EventSource> LoopInner<P, C, S> {
     {
         let poll = Poll::new(heap, poller, clock)?;
         let lifecycle = Lifecycle::new(heap)?;
+        let errands = Errands::new(heap)?;
         let sources = SourceList::new(heap)?;
         Ok(LoopInner {
             registry: Registry { poll, lifecycle },
             sources,
             pending_action: PostAction::Continue,
+            errands,
         })
     }
 

@@ -8,9 +8,9 @@ use crate::sheet::{Line, Sheet, Verdict};
 use crate::state::EventLoop;
 use crate::wait::wait;
 use bounded::Bounded;
+use kinds::EventSource;
 use list::{Place, Slot};
 use poller::Poller;
-use sources::EventSource;
 use std::alloc::{AllocError, Global};
 use sys::{Clock, Environment, PollEvent, PollEvents};
 use token::{Error, Token};
@@ -81,6 +81,7 @@ impl<P: Poller, C: Clock, S: EventSource> EventLoop<P, C, S> {
             mut registry,
             mut sources,
             pending_action: _,
+            errands: _,
         } = inner;
         while let Some(Slot { version: _, place }) = sources.take_last() {
             match place {

@@ -3,9 +3,9 @@ ghost use Rattle.list.specs.Slots.{Calm};
 
 use crate::inner::LoopInner;
 use bounded::Bounded;
+use kinds::EventSource;
 use list::SourceList;
 use poller::Poller;
-use sources::EventSource;
 use sys::{Class, Clock, PollEvent};
 use token::{Error, Token};
 

@@ -1,7 +1,7 @@
 // The registration of a source, with its lifecycle entries.
 use crate::inner::Registry;
+use kinds::EventSource;
 use poller::Poller;
-use sources::EventSource;
 use sys::Clock;
 use token::{Error, Token, TokenFactory};
 

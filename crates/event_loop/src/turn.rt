@@ -4,10 +4,10 @@ ghost use Rattle.list.specs.Slots.{Apart, Calm};
 use crate::decide::decide;
 use crate::inner::{LoopInner, Registry};
 use crate::sheet::Verdict;
+use kinds::EventSource;
 use list::SourceList;
 use poller::Poller;
 use post_action::PostAction;
-use sources::EventSource;
 use std::mem;
 use sys::{Clock, PollEvent};
 use token::{Error, Token};
@@ -19,13 +19,16 @@ impl<P: Poller, C: Clock, S: EventSource> LoopInner<P, C, S> {
             registry,
             sources,
             pending_action,
+            errands,
         } = self;
         let token = event.token.forget_sub_id();
         let Some(i) = sources.fits(token) else {
             return Ok(Verdict::Stale);
         };
         let mut source = sources.take_out(i);
-        let answer = source.process_events(&mut registry.poll, event.readiness, event.token);
+        errands.clear();
+        let poll = &mut registry.poll;
+        let answer = source.process_events(poll, event.readiness, event.token, errands);
         let pending = mem::replace(pending_action, PostAction::Continue);
         let action = answer.map_or(pending, |answered| decide(answered, pending));
         let acted = registry.act(action, &mut source, token, sources);

@@ -12,7 +12,6 @@ use poller::Readiness;
 use post_action::PostAction;
 use token::Error;
 
-// The handler of `sources` is asked less, so both stand.
 pub trait GenericHandler {
     // What a call may come to. Only the call itself gives it.
     ghost handles: { Self → Readiness → List Errand → Outcome PostAction → Self → List Errand → Type 0 };

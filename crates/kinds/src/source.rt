@@ -20,7 +20,6 @@ use post_action::PostAction;
 use sys::{Clock, Poll, PollEvent};
 use token::{Error, Token, TokenFactory};
 
-// The older trait of `sources` asks less of a kind, so it stands beside this one while the loop runs over it.
 // A kind without hooks says so call by call: a body here would have to establish `hears`, `sleeps` and `sees`,
 // which are each kind's own.
 pub trait EventSource {

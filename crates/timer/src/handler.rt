@@ -1,5 +1,5 @@
 // What is done when the timer rings. No closure: `new` would have to require that it may be called at any deadline,
-// and what it asks for would obey no law. The handler of `sources` is asked less, so both stand.
+// and what it asks for would obey no law.
 ghost use Rattle.std.specs.Prelude.{ℕ, List};
 ghost use Rattle.rules.specs.Kinds.{Grown};
 ghost use Rattle.kinds.specs.declared.errand.Errand.{Errand};

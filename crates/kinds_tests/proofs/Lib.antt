@@ -1,0 +1,3 @@
+mod Disarmed
+mod Steps
+mod Timing

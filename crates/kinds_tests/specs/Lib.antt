@@ -1,0 +1,2 @@
+pub mod Leftovers
+pub mod Timing
