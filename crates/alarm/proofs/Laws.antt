@@ -1,5 +1,5 @@
 -- An alarm keeps the rules of source kinds.
-use Rattle.std.proofs.Common.{◌≡◌, ℕ, ◌+◌, ◌^◌, List, [], ◌∷◌, Some, None, Option, nat_lt, sym, refl, ap, subst, inl, inr}
+use Rattle.std.proofs.Common.{◌<◌, ◌≡◌, ℕ, ◌+◌, ◌^◌, List, [], ◌∷◌, Some, None, Option, nat_lt, sym, refl, ap, subst, inl, inr}
 use Rattle.std.proofs.lemmas.Bool.{cond_both}
 use Rattle.std.specs.List.{AllByRecursion}
 use Rattle.token.specs.declared.token.Token.{Token}
@@ -51,15 +51,15 @@ module _ (s : Alarm) where
   unregistered : (w : World) (d d' : Drawer) (r : Answer) → Forward d d' → Fine w d (came [] r (with_registration s None) w d')
   unregistered w d d' r f = record { reaches = forgets _ w; draws = f; drew = λ j m. elim m [ ]; refusing = λ m b e. record { held = refl; entered = refl } }
 
-  enters : (w : World) (d : Drawer) (deadline : ℕ) → Fine w d (drawn s deadline (done d) w (next_sub_id d))
-  enters w d deadline =
+  enters : (w : World) (d : Drawer) (deadline : ℕ) → d.sub_id < 65535 → Fine w d (drawn s deadline (done d) w (next_sub_id d))
+  enters w d deadline l =
       let D = Drawn d (next_sub_id d) in
       insert_cases deadline d w.wheel (λ o t. Fine w d (inserted s d w (next_sub_id d) o t))
-      (unregistered w d (next_sub_id d) (refusal 16) (steps_on d))
-      (unregistered w d (next_sub_id d) (refusal 17) (steps_on d))
+      (unregistered w d (next_sub_id d) (refusal 16) (steps_on d l))
+      (unregistered w d (next_sub_id d) (refusal 17) (steps_on d l))
       (record {
         reaches = alarm_reaches D s (with_registration s (Some (record { token = d; counter = w.wheel.next }))) w _ (insert_timers D _ deadline d w.wheel (drawn_key d));
-        draws = steps_on d;
+        draws = steps_on d l;
         drew = λ k m. elim m [ inl e ↦ subst D (sym e) (drawn_key d) | inr q ↦ elim q [ ] ];
         refusing = λ n c e. record { held = refl; entered = refl };
       })

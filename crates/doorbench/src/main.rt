@@ -1,17 +1,9 @@
 // Reads a door script from standard input, and writes one line for each of its lines.
 #![tactic(auto)]
 
-mod answer;
-mod bench;
-
-use answer::perform;
-use bench::Bench;
-use event_loop::EventLoop;
-use kinds::EventSource;
-use poller::BenchPoller;
+use bench::{Bench, perform};
 use script::read_line;
 use std::io::{BufRead, BufReader, BufWriter, Read, Write};
-use sys::SetClock;
 
 // Answers each line.
 fn answer_lines<R: Read + Drop, W: Write + Drop>(
@@ -36,8 +28,7 @@ fn main(rt: HostRuntime) -> anyhow::Result<()> {
     let heap = rt.alloc();
     let input = BufReader::new(heap, rt.stdin())?;
     let mut output = BufWriter::new(heap, rt.stdout())?;
-    let poller = BenchPoller::new(heap)?;
-    let mut bench = EventLoop::new(heap, poller, SetClock { time: 0 })?;
+    let mut bench = Bench::new(heap)?;
     let answered = answer_lines(&rt, &mut bench, input, &mut output);
     bench.end();
     answered

@@ -1,3 +1,4 @@
 pub mod Decide
 pub mod Remaining
 pub mod Printed
+pub mod State

@@ -1,50 +1,74 @@
-// The making of the inner loop, and an insert.
-ghost use Rattle.std.specs.Prelude.{◌≡◌, [], IfOk};
+// The user's calls but dispatch.
+ghost use Rattle.std.specs.Prelude.{◌≡◌, ◌↔◌, ℕ, true, List, [], ◌∷◌, ◌++◌, IfOk};
+ghost use Rattle.event_loop.specs.State.{Aside};
+ghost use Rattle.loop_handle.specs.State.{Orderly, Performed, inserted_of};
+ghost use Rattle.model.specs.Calls.{disable_of, enable_of, idling_of, insert_of, remove_of, update_of};
+ghost use Rattle.model.specs.Counts.{Counted, Latest, times, version_of};
+ghost use Rattle.model.specs.Order.{given_out};
+ghost use Rattle.rules.specs.Kinds.{Free};
+ghost use Rattle.token.specs.Refusal.{outcome};
 
-use crate::inner::{InsertError, LoopInner, Registry};
-use kinds::{Errands, EventSource};
-use list::{Lifecycle, SourceList};
+use crate::state::EventLoop;
+use kinds::EventSource;
+use loop_handle::InsertError;
 use poller::Poller;
-use post_action::PostAction;
-use std::alloc::{AllocError, Global};
-use sys::{Clock, Poll};
+use sys::Clock;
 use token::{Error, Token};
 
-impl<P: Poller, C: Clock, S: EventSource> LoopInner<P, C, S> {
-    pub fn new(heap: Global, poller: P, clock: C) -> Result<LoopInner<P, C, S>, AllocError>
-    where
-        P: Drop,
-        C: Drop,
-        ensures { IfOk result (λ l. l.sources ≡ []) }
+impl<P: Poller, C: Clock, S: EventSource> EventLoop<P, C, S> {
+    // Puts the source into a slot and registers it, or hands it back.
+    pub fn insert(&mut self, source: S) -> Result<Token, InsertError<S>>
+        ensures is { Performed P.Poller C.Clock S.EventSource (λ l. insert_of S.EventSource l source) self.old.inner.handle (inserted_of result) self.new.inner.handle }
+        ensures aside { Aside self.old self.new }
+        ensures order { (h : List ℕ) → Orderly P.Poller S.EventSource h self.old.inner.handle → Free (S.EventSource.means source) → Orderly P.Poller S.EventSource (h ++ given_out self.old.inner.handle.sources) self.new.inner.handle }
+        ensures version { (h : List ℕ) → Counted h self.old.inner.handle.sources → IfOk result (λ t. t.version ≡ version_of (times t.id (h ++ t.id ∷ []))) }
     {
-        let poll = Poll::new(heap, poller, clock)?;
-        let lifecycle = Lifecycle::new(heap)?;
-        let errands = Errands::new(heap)?;
-        let sources = SourceList::new(heap)?;
-        Ok(LoopInner {
-            registry: Registry { poll, lifecycle },
-            sources,
-            pending_action: PostAction::Continue,
-            errands,
-        })
+        self.inner.handle.insert(source)
     }
 
-    // Puts the source into a slot and registers it, or hands it back.
-    pub fn insert(&mut self, mut source: S) -> Result<Token, InsertError<S>> {
-        let Some(token) = self.sources.vacant_entry() else {
-            return Err(InsertError {
-                inserted: source,
-                error: Error::NoSlot,
-            });
-        };
-        if let Err(error) = self.registry.register(&mut source, token) {
-            self.registry.lifecycle.drop_all(token);
-            return Err(InsertError {
-                inserted: source,
-                error,
-            });
-        }
-        self.sources.fill(token.id as usize, source);
-        Ok(token)
+    // Registers a source that was unregistered.
+    pub fn enable(&mut self, token: Token) -> Result<(), Error>
+        ensures is { Performed P.Poller C.Clock S.EventSource (λ l. enable_of S.EventSource l token) self.old.inner.handle (outcome result) self.new.inner.handle }
+        ensures aside { Aside self.old self.new }
+        ensures order { (h : List ℕ) → Orderly P.Poller S.EventSource h self.old.inner.handle → Orderly P.Poller S.EventSource h self.new.inner.handle }
+    {
+        self.inner.handle.enable(token)
+    }
+
+    // Registers a source anew; one that is being handled, after its event.
+    pub fn update(&mut self, token: Token) -> Result<(), Error>
+        ensures is { Performed P.Poller C.Clock S.EventSource (λ l. update_of S.EventSource l token) self.old.inner.handle (outcome result) self.new.inner.handle }
+        ensures aside { Aside self.old self.new }
+        ensures order { (h : List ℕ) → Orderly P.Poller S.EventSource h self.old.inner.handle → Orderly P.Poller S.EventSource h self.new.inner.handle }
+    {
+        self.inner.handle.update(token)
+    }
+
+    // Unregisters a source; one that is being handled, after its event.
+    pub fn disable(&mut self, token: Token) -> Result<(), Error>
+        ensures is { Performed P.Poller C.Clock S.EventSource (λ l. disable_of S.EventSource l token) self.old.inner.handle (outcome result) self.new.inner.handle }
+        ensures aside { Aside self.old self.new }
+        ensures order { (h : List ℕ) → Orderly P.Poller S.EventSource h self.old.inner.handle → Orderly P.Poller S.EventSource h self.new.inner.handle }
+    {
+        self.inner.handle.disable(token)
+    }
+
+    // Empties the slot, and answers whether a source left. One that is being handled leaves after its event.
+    pub fn remove(&mut self, token: Token) -> bool
+        ensures is { Performed P.Poller C.Clock S.EventSource (λ l. remove_of S.EventSource l token) self.old.inner.handle result self.new.inner.handle }
+        ensures aside { Aside self.old self.new }
+        ensures order { (h : List ℕ) → Orderly P.Poller S.EventSource h self.old.inner.handle → Orderly P.Poller S.EventSource h self.new.inner.handle }
+        ensures fits { (h : List ℕ) (n : ℕ) → Counted h self.old.inner.handle.sources → token.version ≡ version_of n → (result ≡ true) ↔ Latest h self.old.inner.handle.sources token.id n }
+    {
+        self.inner.handle.remove(token)
+    }
+
+    // Lets a value wait for the idle handler, and answers its ticket.
+    pub fn idle(&mut self, value: u32) -> Result<u32, Error>
+        ensures is { Performed P.Poller C.Clock S.EventSource (λ l. idling_of l value) self.old.inner.handle (outcome result) self.new.inner.handle }
+        ensures aside { Aside self.old self.new }
+        ensures order { (h : List ℕ) → Orderly P.Poller S.EventSource h self.old.inner.handle → Orderly P.Poller S.EventSource h self.new.inner.handle }
+    {
+        self.inner.handle.idle(value)
     }
 }

@@ -1,19 +1,26 @@
-// The user's calls; a dispatch is hooks, a wait, and a turn for each event.
+// The making and the end of a loop, and a dispatch: hooks, a wait, and a turn for each event.
 ghost use Rattle.std.specs.Prelude.{◌≡◌, ◌+◌, ◌≤◌, ◌++◌, length, map, vec_len};
+ghost use Rattle.std.specs.Prelude.{[], IfOk};
 ghost use Rattle.event_loop.specs.Printed.{line_of};
+ghost use Rattle.event_loop.specs.State.{Idle};
+ghost use Rattle.loop_handle.specs.State.{Orderly, loop_of};
+ghost use Rattle.model.specs.State.{new_loop};
+ghost use Rattle.sys.specs.Polling.{state_of};
+ghost use Rattle.sys.specs.World.{world_of};
 ghost use Rattle.event_loop.specs.declared.sheet.Verdict.TheVariants.{Lost};
 
-use crate::inner::{InsertError, LoopInner};
+use crate::inner::LoopInner;
 use crate::sheet::{Line, Sheet, Verdict};
 use crate::state::EventLoop;
 use crate::wait::wait;
 use bounded::Bounded;
-use kinds::EventSource;
+use kinds::{Errands, EventSource};
 use list::{Place, Slot};
+use loop_handle::LoopHandle;
 use poller::Poller;
 use std::alloc::{AllocError, Global};
 use sys::{Clock, Environment, PollEvent, PollEvents};
-use token::{Error, Token};
+use token::Error;
 
 impl<P: Poller, C: Clock, S: EventSource> LoopInner<P, C, S> {
     // Gives each event its turn and its line. At a fault the later events are lost.
@@ -52,13 +59,18 @@ impl<P: Poller, C: Clock, S: EventSource> EventLoop<P, C, S> {
     where
         P: Drop,
         C: Drop,
+        ensures is { IfOk result (λ l. loop_of l.inner.handle (world_of P.Poller l.inner.handle.registry.poll) ≡ new_loop (P.Poller.entries poller) (P.Poller.most poller) P.Poller.LEVEL) }
+        ensures poll { IfOk result (λ l. ((state_of l.inner.handle.registry.poll).poller ≡ poller) × ((state_of l.inner.handle.registry.poll).clock ≡ clock)) }
+        ensures idle { IfOk result Idle }
+        ensures order { P.Poller.entries poller ≡ [] → IfOk result (λ l. Orderly P.Poller S.EventSource [] l.inner.handle) }
     {
         let synthetic_events = Bounded::new(heap)?;
         let events = PollEvents::new(heap)?;
         let sheet = Sheet::new(heap)?;
-        let inner = LoopInner::new(heap, poller, clock)?;
+        let errands = Errands::new(heap)?;
+        let handle = LoopHandle::new(heap, poller, clock)?;
         Ok(EventLoop {
-            inner,
+            inner: LoopInner { handle, errands },
             synthetic_events,
             events,
             sheet,
@@ -77,13 +89,21 @@ impl<P: Poller, C: Clock, S: EventSource> EventLoop<P, C, S> {
             events: _,
             sheet: _,
         } = self;
-        let LoopInner {
+        let LoopInner { handle, errands: _ } = inner;
+        let LoopHandle {
             mut registry,
             mut sources,
+            idles: _,
             pending_action: _,
-            errands: _,
-        } = inner;
-        while let Some(Slot { version: _, place }) = sources.take_last() {
+        } = handle;
+        while let Some(
+            Slot {
+                version: _,
+                enabled: _,
+                place,
+            },
+        ) = sources.take_last()
+        {
             match place {
                 Place::Occupied(mut source) => {
                     source.let_go(&mut registry.poll);
@@ -97,11 +117,7 @@ impl<P: Poller, C: Clock, S: EventSource> EventLoop<P, C, S> {
 
     // Lets the world change what the poller and the clock will say.
     pub fn arrange<E: Environment<P, C>>(&mut self, environment: &mut E) {
-        self.inner.registry.poll.arrange(environment);
-    }
-
-    pub fn insert(&mut self, source: S) -> Result<Token, InsertError<S>> {
-        self.inner.insert(source)
+        self.inner.handle.registry.poll.arrange(environment);
     }
 
     // Hands the events of one wait to their sources. The sheet says what became of each.
@@ -113,14 +129,14 @@ impl<P: Poller, C: Clock, S: EventSource> EventLoop<P, C, S> {
             sheet,
         } = self;
         sheet.items.clear();
-        let start = inner.registry.poll.now();
+        let start = inner.handle.registry.poll.now();
         inner.before_sleep(synthetic_events)?;
         let timeout = if synthetic_events.items.is_empty() {
             timeout
         } else {
             Some(0)
         };
-        match wait(&mut inner.registry.poll, timeout, start, events) {
+        match wait(&mut inner.handle.registry.poll, timeout, start, events) {
             None => Ok(()),
             Some(Ok(())) => self.handle_events(),
             Some(Err(error)) => {

@@ -1,10 +1,13 @@
 // The hooks around a wait.
-ghost use Rattle.list.specs.Slots.{Calm};
+ghost use Rattle.std.specs.Prelude.{◌≡◌, Some};
+ghost use Rattle.list.specs.Slots.{Calm, fitting};
+ghost use Rattle.token.specs.declared.token.Token.{Token};
 
 use crate::inner::LoopInner;
 use bounded::Bounded;
 use kinds::EventSource;
 use list::SourceList;
+use loop_handle::LoopHandle;
 use poller::Poller;
 use sys::{Class, Clock, PollEvent};
 use token::{Error, Token};
@@ -13,13 +16,17 @@ use token::{Error, Token};
 impl<P: Poller, C: Clock, S: EventSource> LoopInner<P, C, S> {
     // Queues what the hooks answer. An event that found no wait yet stays in front.
     pub fn before_sleep(&mut self, queue: &mut Bounded<PollEvent, 128>) -> Result<(), Error> {
-        let sources = &mut self.sources;
-        for &token in self.registry.lifecycle.as_slice() {
+        let LoopHandle {
+            registry,
+            sources,
+            ..
+        } = &mut self.handle;
+        for &token in registry.lifecycle.as_slice() {
             if queue.is_full() {
                 return Err(Error::SyntheticFull);
             }
-            let answer = ask(sources, token, |source| source.before_sleep()).transpose()?;
-            if let Some((readiness, token)) = answer.flatten() {
+            let answer = ask(sources, token, |source| source.before_sleep())?;
+            if let Some((readiness, token)) = answer {
                 queue.items.push_reserved(PollEvent {
                     class: Class::Synthetic,
                     readiness,
@@ -32,8 +39,12 @@ impl<P: Poller, C: Clock, S: EventSource> LoopInner<P, C, S> {
 
     // Shows the source of each lifecycle entry what the wait brought.
     pub fn before_handle_events(&mut self, events: &[PollEvent]) {
-        let sources = &mut self.sources;
-        for &token in self.registry.lifecycle.as_slice() {
+        let LoopHandle {
+            registry,
+            sources,
+            ..
+        } = &mut self.handle;
+        for &token in registry.lifecycle.as_slice() {
             ask(
                 sources,
                 token,
@@ -43,12 +54,16 @@ impl<P: Poller, C: Clock, S: EventSource> LoopInner<P, C, S> {
     }
 }
 
-// Calls the source of a lifecycle entry where it stands. None where the entry fits no slot any more.
-fn ask<S, R, F: FnOnce(&mut S) -> R>(sources: &mut SourceList<S>, token: Token, ask: F) -> Option<R>
+// Calls the source of a lifecycle entry where it stands.
+fn ask<S, R, F: FnOnce(&mut S) -> R>(sources: &mut SourceList<S>, token: Token, ask: F) -> R
     requires calm { Calm sources.old }
+    requires fits { fitting sources.old token ≡ Some token.id }
     requires callable { F.IsAlwaysCallable ask }
-    ensures { Calm sources.new }
+    ensures calm { Calm sources.new }
+    ensures fits { (u : Token) → fitting sources.new u ≡ fitting sources.old u }
 {
-    let slot = sources.fits(token)?;
-    Some(sources.with_source(slot, ask))
+    let Some(slot) = sources.fits(token) else {
+        unreachable()
+    };
+    sources.with_source(slot, ask)
 }

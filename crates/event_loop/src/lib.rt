@@ -6,13 +6,12 @@ mod decide;
 mod dispatch;
 mod hooks;
 mod inner;
-mod registry;
 mod remaining;
 mod sheet;
 mod state;
 mod turn;
 mod wait;
 
-pub use inner::InsertError;
+pub use loop_handle::InsertError;
 pub use sheet::{Line, Sheet, Verdict};
 pub use state::EventLoop;

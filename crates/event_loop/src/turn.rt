@@ -1,11 +1,15 @@
 // The turn of one event.
-ghost use Rattle.list.specs.Slots.{Apart, Calm};
+ghost use Rattle.std.specs.Prelude.{◌≡◌};
+ghost use Rattle.list.specs.Slots.{Apart, Calm, fitting};
+ghost use Rattle.model.specs.Order.{Listed, ListedBut};
+ghost use Rattle.token.specs.declared.token.Token.{Token};
 
 use crate::decide::decide;
-use crate::inner::{LoopInner, Registry};
+use crate::inner::LoopInner;
 use crate::sheet::Verdict;
 use kinds::EventSource;
 use list::SourceList;
+use loop_handle::{LoopHandle, Registry};
 use poller::Poller;
 use post_action::PostAction;
 use std::mem;
@@ -15,12 +19,13 @@ use token::{Error, Token};
 impl<P: Poller, C: Clock, S: EventSource> LoopInner<P, C, S> {
     // Hands the event to the source that its token fits. A fault stops the dispatch; the source was called before it.
     pub fn turn(&mut self, event: PollEvent) -> Result<Verdict, Error> {
-        let LoopInner {
+        let LoopInner { handle, errands } = self;
+        let LoopHandle {
             registry,
             sources,
             pending_action,
-            errands,
-        } = self;
+            idles: _,
+        } = handle;
         let token = event.token.forget_sub_id();
         let Some(i) = sources.fits(token) else {
             return Ok(Verdict::Stale);
@@ -31,61 +36,83 @@ impl<P: Poller, C: Clock, S: EventSource> LoopInner<P, C, S> {
         let answer = source.process_events(poll, event.readiness, event.token, errands);
         let pending = mem::replace(pending_action, PostAction::Continue);
         let action = answer.map_or(pending, |answered| decide(answered, pending));
-        let acted = registry.act(action, &mut source, token, sources);
+        let acted = act(registry, action, &mut source, token, sources);
         // the source's own fault goes before that of the action
-        registry.settle(source, token, sources, answer.and(acted))?;
+        settle(registry, source, token, sources, answer.and(acted))?;
         Ok(Verdict::Delivered)
     }
 }
 
-impl<P: Poller, C: Clock> Registry<P, C> {
-    // What the source answered, or was asked for it, is done on the value in hand. Value, token and slots are handed over
-    // one by one, here and in `settle`: a struct of them would borrow the slots, and be made for these two calls alone.
-    fn act<S: EventSource>(
-        &mut self,
-        action: PostAction,
-        source: &mut S,
-        token: Token,
-        sources: &mut SourceList<S>,
-    ) -> Result<(), Error>
-        requires { Apart sources.old token }
-        ensures { Apart sources.new token }
-    {
-        match action {
-            PostAction::Continue => Ok(()),
-            PostAction::Reregister => self.reregister(source, token),
-            PostAction::Disable => self.unregister(source, token),
-            PostAction::Remove => {
-                if let Some(i) = sources.fits(token) {
-                    sources.empty(i);
-                }
-                Ok(())
+// What the source answered, or was asked for it, is done on the value in hand. Value, token and slots are handed over
+// one by one, here and in `settle`: a struct of them would borrow the slots, and be made for these two calls alone.
+fn act<P: Poller, C: Clock, S: EventSource>(
+    registry: &mut Registry<P, C>,
+    action: PostAction,
+    source: &mut S,
+    token: Token,
+    sources: &mut SourceList<S>,
+) -> Result<(), Error>
+    requires apart { Apart sources.old token }
+    requires listed { ListedBut token sources.old registry.old.lifecycle }
+    ensures apart { Apart sources.new token }
+    ensures listed { ListedBut token sources.new registry.new.lifecycle }
+{
+    match action {
+        PostAction::Continue => Ok(()),
+        PostAction::Reregister => {
+            registry.reregister(source, token)?;
+            mark(sources, token, true);
+            Ok(())
+        }
+        PostAction::Disable => {
+            registry.unregister(source, token)?;
+            mark(sources, token, false);
+            Ok(())
+        }
+        PostAction::Remove => {
+            if let Some(i) = sources.fits(token) {
+                sources.empty(i);
             }
+            Ok(())
         }
     }
+}
 
-    // The value in hand goes back to its slot, or is let go where the token fits none any more.
-    // The turn's fate is handed on.
-    fn settle<S: EventSource>(
-        &mut self,
-        mut source: S,
-        token: Token,
-        sources: &mut SourceList<S>,
-        fate: Result<(), Error>,
-    ) -> Result<(), Error>
-        requires { Apart sources.old token }
-        ensures { Calm sources.new }
-    {
-        if let Some(i) = sources.fits(token) {
-            sources.fill(i, source);
-            return fate;
-        }
-        if fate.is_ok() {
-            let _ = self.unregister(&mut source, token);
-        }
-        source.let_go(&mut self.poll);
-        source.end();
-        self.lifecycle.drop_all(token);
-        fate
+// Notes in its slot, if it still has it, whether the source in hand is enabled.
+fn mark<S>(sources: &mut SourceList<S>, token: Token, enabled: bool)
+    requires { Apart sources.old token }
+    ensures apart { Apart sources.new token }
+    ensures fits { (u : Token) → fitting sources.new u ≡ fitting sources.old u }
+{
+    if let Some(i) = sources.fits(token) {
+        sources.set_enabled(i, enabled);
     }
+}
+
+// The value in hand goes back to its slot, or is let go where the token fits none any more.
+// The turn's fate is handed on.
+fn settle<P: Poller, C: Clock, S: EventSource>(
+    registry: &mut Registry<P, C>,
+    mut source: S,
+    token: Token,
+    sources: &mut SourceList<S>,
+    fate: Result<(), Error>,
+) -> Result<(), Error>
+    requires apart { Apart sources.old token }
+    requires listed { ListedBut token sources.old registry.old.lifecycle }
+    ensures calm { Calm sources.new }
+    ensures listed { Listed sources.new registry.new.lifecycle }
+{
+    if let Some(i) = sources.fits(token) {
+        sources.fill(i, source);
+        return fate;
+    }
+    if fate.is_ok() {
+        // a refusal is not answered: the source is let go in any case
+        let _ = registry.unregister(&mut source, token);
+    }
+    source.let_go(&mut registry.poll);
+    source.end();
+    registry.lifecycle.drop_all(token);
+    fate
 }

@@ -20,6 +20,8 @@ pub enum Place<S> {
 
 pub struct Slot<S> {
     pub version: u16,
+    // no accepted unregister since its last accepted register or reregister
+    pub enabled: bool,
     pub place: Place<S>,
 }
 
@@ -51,7 +53,7 @@ impl<S> Place<S> {
 
 impl<S> SourceList<S> {
     ghost use Rattle.list.specs.declared.slots.Place.TheVariants.{Empty, Occupied, Handled};
-    ghost use Rattle.list.specs.Slots.{NoSourceAt, SourceAt, fitting, occupied, placed, slot_at, vacant_of};
+    ghost use Rattle.list.specs.Slots.{NoSourceAt, SourceAt, fitting, handled, marked, occupied, placed, slot_at, standing, vacant_of};
 
     pub fn new(heap: Global) -> Result<SourceList<S>, AllocError>
         ensures { IfOk result (λ l. l ≡ []) }
@@ -82,6 +84,7 @@ impl<S> SourceList<S> {
                 let slot = &mut self.slots.items[i];
                 // as `Token::increment_version` does; a slot keeps its version alone, since its place is its id
                 slot.version = slot.version.wrapping_add(1);
+                slot.enabled = false;
                 (i, slot.version)
             }
             None if self.slots.is_full() => return None,
@@ -89,6 +92,7 @@ impl<S> SourceList<S> {
                 let unused = self.slots.items.len();
                 self.slots.items.push_reserved(Slot {
                     version: 0,
+                    enabled: false,
                     place: Place::Empty,
                 });
                 (unused, 0)
@@ -109,6 +113,28 @@ impl<S> SourceList<S> {
         let i = token.id as usize;
         let slot = self.slots.items.get(i)?;
         (slot.place.is_occupied() && slot.version == token.version).then_some(i)
+    }
+
+    // Whether the slot's source is being handled.
+    pub fn is_handled(&self, i: usize) -> bool
+        ensures { result ≡ handled (slot_at self.now i).place }
+    {
+        let slot = self.slots.items.get(i);
+        slot.is_some_and(|slot| matches!(slot.place, Place::Handled))
+    }
+
+    // Whether the slot's source is enabled; false for a slot not in use.
+    pub fn is_enabled(&self, i: usize) -> bool
+        ensures { result ≡ (slot_at self.now i).enabled }
+    {
+        self.slots.items.get(i).is_some_and(|slot| slot.enabled)
+    }
+
+    pub fn set_enabled(&mut self, i: usize, enabled: bool)
+        requires { i < length self.old }
+        ensures { self.new ≡ marked self.old i enabled }
+    {
+        self.slots.items[i].enabled = enabled;
     }
 
     // Puts this into the slot, and answers what was there.
@@ -161,6 +187,15 @@ impl<S> SourceList<S> {
         ensures { self.new ≡ placed self.old i (Occupied source) }
     {
         self.put(i, Place::Occupied(source));
+    }
+
+    // Puts a source into a slot that has none, and says whether it is enabled.
+    pub fn put_back(&mut self, i: usize, source: S, enabled: bool)
+        requires { NoSourceAt self.old i }
+        ensures { self.new ≡ standing self.old i source enabled }
+    {
+        self.fill(i, source);
+        self.set_enabled(i, enabled);
     }
 
     // Empties a slot that has no source in it.

@@ -1,5 +1,5 @@
 -- What a source is to the loop: the files that it holds, the tokens that it drew, and its timers.
-use Rattle.std.specs.Prelude.{◌≡◌, ℕ, ◌<◌, ◌≤◌, Bool, List}
+use Rattle.std.specs.Prelude.{◌≡◌, ℕ, ◌<◌, ◌≤◌, ◌^◌, Bool, List}
 use Rattle.token.specs.declared.token.Token.{Token}
 use Rattle.token.specs.Key.{key_of}
 
@@ -28,6 +28,8 @@ pub record Forward (d d' : Drawer) : Type 0 where
   pub id : d'.id ≡ d.id
   pub version : d'.version ≡ d.version
   pub sub_id : d.sub_id ≤ d'.sub_id
+  -- a sub-id stays within its 16 bits
+  pub few : d.sub_id < 2 ^ 16 → d'.sub_id < 2 ^ 16
 
 -- the key was drawn between the two
 abbrev pub Drawn : Drawer → Drawer → ℕ → Type 0

@@ -2,7 +2,7 @@
 use Rattle.std.proofs.Common.{◌≡◌, ℕ, ◌^◌, ◌<◌, List, [], ◌∷◌, ◌++◌, codes, decimal, sym, refl, subst, arith}
 use Rattle.post_action.specs.declared.PostAction.{PostAction}
 use Rattle.script.specs.Number.{Digit, Number, NoNumber}
-use Rattle.script.specs.Line.{Plain, timer, generic, wait, letter_of, spaced, Writes, NoForm, Lists, NoList}
+use Rattle.script.specs.Line.{Plain, timer, generic, wait, call, Call, letter_of, call_letter, spaced, Writes, NoForm, Last, NoLast, Lists, NoList}
 use Rattle.script.proofs.Reading.{wider, number_unique}
 
 -- a space is no digit, and a bracket is none
@@ -21,6 +21,10 @@ after_number text m r p n c s f d e = number_unique text m n r (c ∷ s) p (reco
 pub after_file : (text : List ℕ) (m : ℕ) (r : List ℕ) → Number 32 text m r → (n c : ℕ) (s : List ℕ) → n < 2 ^ 32 → (Digit c → ⊥) → decimal n ++ (c ∷ s) ≡ text → (m ≡ n) × (r ≡ c ∷ s)
 after_file text m r p n c s f d e = after_number text m r (wider text m r p) n c s (omega arith) d e
 
+-- a number that something else follows than the bracket alone
+pub last_no_bracket : (text : List ℕ) (m : ℕ) (rest : List ℕ) → Number 64 text m rest → (rest ≡ 41 ∷ [] → ⊥) → NoLast text
+last_no_bracket text m rest q h n p = h (number_unique text m n rest _ q p).1
+
 -- (T d p)
 
 pub record TimerLine (text : List ℕ) (g : Plain) : Type 0 where
@@ -37,6 +41,7 @@ timer_line text (timer d p) w =
     record { deadline = d; period = p; is = refl; deadline_fits = w.fits.0; period_fits = w.fits.1; reads = cc }
 timer_line text (generic f a) w = absurd (grind (arith, w.is))
 timer_line text (wait c fs) w = absurd (grind (arith, w.is))
+timer_line text (call k n) w = absurd (grind (arith, w.is))
 
 pub timer_no_deadline : (text : List ℕ) → NoNumber 64 text → NoForm (codes "(T " ++ text)
 timer_no_deadline text h g w =
@@ -48,24 +53,15 @@ timer_no_space text m rest q h g w =
     let v = timer_line text g w in
     h _ (after_number text m rest q v.deadline 32 _ v.deadline_fits space_stops v.reads).1
 
--- what stands after the space
-period_text : (text : List ℕ) (m : ℕ) (rest more : List ℕ) → Number 64 text m rest → rest ≡ 32 ∷ more → (g : Plain) (v : TimerLine text g) → decimal v.period ++ (41 ∷ []) ≡ more
-period_text text m rest more q s g v =
-    let a = (after_number text m rest q v.deadline 32 _ v.deadline_fits space_stops v.reads).1 in
-    cc
-
-pub timer_no_period : (text : List ℕ) (m : ℕ) (rest more : List ℕ) → Number 64 text m rest → rest ≡ 32 ∷ more → NoNumber 64 more → NoForm (codes "(T " ++ text)
+pub timer_no_period : (text : List ℕ) (m : ℕ) (rest more : List ℕ) → Number 64 text m rest → rest ≡ 32 ∷ more → NoLast more → NoForm (codes "(T " ++ text)
 timer_no_period text m rest more q s h g w =
     let v = timer_line text g w in
-    no_number 64 more v.period 41 [] h v.period_fits bracket_stops (period_text text m rest more q s g v)
+    let a = (after_number text m rest q v.deadline 32 _ v.deadline_fits space_stops v.reads).1 in
+    let t : more ≡ decimal v.period ++ (41 ∷ []) = cc in
+    h v.period (record { reads = t; fits = v.period_fits; stops = bracket_stops })
 
-pub timer_no_end : (text : List ℕ) (m : ℕ) (rest more : List ℕ) (n : ℕ) (end : List ℕ) → Number 64 text m rest → rest ≡ 32 ∷ more → Number 64 more n end → (end ≡ 41 ∷ [] → ⊥) → NoForm (codes "(T " ++ text)
-timer_no_end text m rest more n end q s r h g w =
-    let v = timer_line text g w in
-    h (after_number more n end r v.period 41 [] v.period_fits bracket_stops (period_text text m rest more q s g v)).1
-
-pub timer_read : (text : List ℕ) (m : ℕ) (rest more : List ℕ) (n : ℕ) (end : List ℕ) → Number 64 text m rest → rest ≡ 32 ∷ more → Number 64 more n end → end ≡ 41 ∷ [] → Writes (timer m n) (codes "(T " ++ text)
-timer_read text m rest more n end q s r h =
+pub timer_read : (text : List ℕ) (m : ℕ) (rest more : List ℕ) (n : ℕ) → Number 64 text m rest → rest ≡ 32 ∷ more → Last n more → Writes (timer m n) (codes "(T " ++ text)
+timer_read text m rest more n q s r =
     let a = q.reads in
     let b = r.reads in
     record { fits = (q.fits, r.fits); is = cc }
@@ -85,6 +81,7 @@ generic_line text (generic f a) w =
     let e = w.is in
     record { file = f; action = a; is = refl; file_fits = w.fits; reads = cc }
 generic_line text (wait c fs) w = absurd (grind (arith, w.is))
+generic_line text (call k n) w = absurd (grind (arith, w.is))
 
 pub generic_no_file : (text : List ℕ) → NoNumber 32 text → NoForm (codes "(G " ++ text)
 generic_no_file text h g w =
@@ -133,6 +130,7 @@ wait_line text (wait c fs) w =
       lists = record { fits = w.fits.1; is = refl };
       reads = cc;
     }
+wait_line text (call k n) w = absurd (grind (arith, w.is))
 
 pub wait_no_open : (text : List ℕ) (m : ℕ) (rest : List ℕ) → Number 64 text m rest → ((s : List ℕ) → rest ≡ 32 ∷ (40 ∷ s) → ⊥) → NoForm (codes "(W " ++ text)
 wait_no_open text m rest q h g w =
@@ -156,3 +154,32 @@ wait_read text m rest more fs q o l =
     let t = q.reads in
     let s = l.is in
     record { fits = (q.fits, l.fits); is = cc }
+
+-- (E n), (U n), (D n) and (R n)
+
+pub record CallLine (k : Call) (text : List ℕ) (g : Plain) : Type 0 where
+  pub insert : ℕ
+  pub is : g ≡ call k insert
+  pub reads : Last insert text
+
+same_call : (j k : Call) → call_letter j ≡ call_letter k → j ≡ k
+same_call j k e = grind arith
+
+pub call_line : (k : Call) (text : List ℕ) (g : Plain) → Writes g (codes "(" ++ (call_letter k ∷ (codes " " ++ text))) → CallLine k text g
+call_line k text (timer d p) w = absurd (grind (arith, w.is))
+call_line k text (generic f a) w = absurd (grind (arith, w.is))
+call_line k text (wait c fs) w = absurd (grind (arith, w.is))
+call_line k text (call j n) w =
+    let e = w.is in
+    let z : call_letter j ≡ call_letter k = cc in
+    let s = same_call j k z in
+    let t : text ≡ decimal n ++ (41 ∷ []) = cc in
+    record { insert = n; is = cc; reads = record { reads = t; fits = w.fits; stops = bracket_stops } }
+
+pub call_no_insert : (k : Call) (text : List ℕ) → NoLast text → NoForm (codes "(" ++ (call_letter k ∷ (codes " " ++ text)))
+call_no_insert k text h g w = let v = call_line k text g w in h v.insert v.reads
+
+pub call_read : (k : Call) (text : List ℕ) (n : ℕ) → Last n text → Writes (call k n) (codes "(" ++ (call_letter k ∷ (codes " " ++ text)))
+call_read k text n q =
+    let t = q.reads in
+    record { fits = q.fits; is = cc }

@@ -3,9 +3,9 @@ use Rattle.std.proofs.Common.{◌≡◌, ℕ, ◌^◌, ◌<◌, List, [], ◌∷
 use Rattle.std.proofs.lemmas.Fmt.{digits_decimal, decimal_nonempty, decimal_injective}
 use Rattle.post_action.specs.declared.PostAction.{PostAction}
 use Rattle.script.specs.Number.{Digit}
-use Rattle.script.specs.Line.{Plain, timer, generic, wait, letter_of, Files, spaced, spaced_on, Lists, Writes, TheForm}
+use Rattle.script.specs.Line.{Plain, timer, generic, wait, call, letter_of, Files, spaced, spaced_on, Lists, Writes, TheForm}
 use Rattle.script.proofs.Reading.{own, cut, wider, number_unique}
-use Rattle.script.proofs.Lines.{space_stops, bracket_stops, timer_line, generic_line, wait_line}
+use Rattle.script.proofs.Lines.{space_stops, bracket_stops, timer_line, generic_line, wait_line, call_line}
 use Rattle.script.proofs.Files.{number_first}
 
 -- a number and what ends it can be told
@@ -76,6 +76,12 @@ one_form (wait c fs) line w g x =
     let z : v.end ≡ spaced fs ++ codes "))" = cc in
     let a = m.0 in
     let b = same_files v.files fs v.end v.lists (record { fits = w.fits.1; is = sym z }) in
+    let e = v.is in
+    cc
+one_form (call k n) line w g x =
+    let v = call_line k (decimal n ++ codes ")") g (record { fits = x.fits; is = x.is ∙ sym w.is }) in
+    let m = same_number v.insert n 41 [] [] v.reads.fits w.fits bracket_stops (sym v.reads.reads) in
+    let a = m.0 in
     let e = v.is in
     cc
 

@@ -2,7 +2,7 @@
 #![tactic(auto)]
 
 ghost use Rattle.std.specs.Prelude.{◌≡◌, ◌++◌, IfOk, codes, MatchOption, ◌≢◌};
-ghost use Rattle.script.specs.Line.{Lists, NoList, Reading, letter_of};
+ghost use Rattle.script.specs.Line.{Last, Lists, NoLast, NoList, Reading, letter_of};
 ghost use Rattle.script.specs.Number.{NoNumber, Number, Split};
 
 use post_action::PostAction;
@@ -17,6 +17,14 @@ pub enum Form {
     Generic { file: u32, action: PostAction },
     // (W clock (file file ..))
     Wait { clock: u64, files: Vec<u32> },
+    // (E n): the n-th accepted insert, counted from 0, as in the three below
+    Enable(u64),
+    // (U n)
+    Update(u64),
+    // (D n)
+    Disable(u64),
+    // (R n)
+    Remove(u64),
 }
 
 // The form that the line is, or None where it is of no form. No `FromStr`: the files need the heap.
@@ -26,10 +34,15 @@ pub fn read_line(heap: Global, line: &[u8]) -> Result<Option<Form>, AllocError>
     let [b'(', letter, b' ', rest @ ..] = line else {
         return Ok(None);
     };
-    match letter {
-        b'T' => Ok(read_timer(rest)),
-        b'G' => Ok(read_generic(rest)),
-        b'W' => read_wait(heap, rest),
+    // letters are matched as characters, as the grammar writes them
+    match char::from(*letter) {
+        'T' => Ok(read_timer(rest)),
+        'G' => Ok(read_generic(rest)),
+        'W' => read_wait(heap, rest),
+        'E' => Ok(read_last(rest).map(Form::Enable)),
+        'U' => Ok(read_last(rest).map(Form::Update)),
+        'D' => Ok(read_last(rest).map(Form::Disable)),
+        'R' => Ok(read_last(rest).map(Form::Remove)),
         _ => Ok(None),
     }
 }
@@ -42,10 +55,8 @@ fn read_timer(text: &[u8]) -> Option<Form>
     let [b' ', rest @ ..] = rest else {
         return None;
     };
-    match read_number(rest)? {
-        (period, [b')']) => Some(Form::Timer { deadline, period }),
-        _ => None,
-    }
+    let period = read_last(rest)?;
+    Some(Form::Timer { deadline, period })
 }
 
 // The form that a line `(G text` is.
@@ -64,11 +75,11 @@ fn read_generic(text: &[u8]) -> Option<Form>
 fn read_action(letter: u8) -> Option<PostAction>
     ensures { MatchOption result ((a : PostAction) → letter_of a ≢ letter) (λ a. letter_of a ≡ letter) }
 {
-    match letter {
-        b'C' => Some(PostAction::Continue),
-        b'R' => Some(PostAction::Reregister),
-        b'D' => Some(PostAction::Disable),
-        b'X' => Some(PostAction::Remove),
+    match char::from(letter) {
+        'C' => Some(PostAction::Continue),
+        'R' => Some(PostAction::Reregister),
+        'D' => Some(PostAction::Disable),
+        'X' => Some(PostAction::Remove),
         _ => None,
     }
 }
@@ -127,6 +138,16 @@ pub fn read_number(text: &[u8]) -> Option<(u64, &[u8])>
     }
     let number = str::from_utf8(digits).ok()?.parse().ok()?;
     Some((number, rest))
+}
+
+// The number that ends a line: the text is the number and the closing bracket.
+fn read_last(text: &[u8]) -> Option<u64>
+    ensures { MatchOption result (NoLast text.now) (λ n. Last n text.now) }
+{
+    match read_number(text)? {
+        (number, [b')']) => Some(number),
+        _ => None,
+    }
 }
 
 // The digits that the text begins with, and the text after them.

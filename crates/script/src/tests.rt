@@ -11,6 +11,14 @@ fn reads(rt: &impl Abort, heap: Global, line: &[u8], text: &str) -> Result<(), F
     Ok(())
 }
 
+// Whether the reader refuses each of the lines.
+fn refuses(rt: &impl Abort, heap: Global, lines: &[&str]) -> Result<(), Fail> {
+    for line in lines {
+        assert!(rt; read_line(heap, line.as_bytes())?.is_none(), "{}", line);
+    }
+    Ok(())
+}
+
 #[test]
 fn reads_each_form(rt: HostRuntime) -> Result<(), Fail> {
     let heap = rt.alloc();
@@ -53,6 +61,28 @@ fn reads_each_form(rt: HostRuntime) -> Result<(), Fail> {
 }
 
 #[test]
+fn reads_each_call(rt: HostRuntime) -> Result<(), Fail> {
+    let lines: [(&str, &str); 6] = [
+        ("(E 0)", "Some(Enable(0))"),
+        ("(U 1)", "Some(Update(1))"),
+        ("(D 20)", "Some(Disable(20))"),
+        ("(R 300)", "Some(Remove(300))"),
+        (
+            "(E 18446744073709551615)",
+            "Some(Enable(18446744073709551615))",
+        ),
+        (
+            "(R 18446744073709551615)",
+            "Some(Remove(18446744073709551615))",
+        ),
+    ];
+    for (line, text) in lines {
+        reads(&rt, rt.alloc(), line.as_bytes(), text)?;
+    }
+    Ok(())
+}
+
+#[test]
 fn refuses_other_lines(rt: HostRuntime) -> Result<(), Fail> {
     let lines: [&str; 20] = [
         "",
@@ -74,15 +104,34 @@ fn refuses_other_lines(rt: HostRuntime) -> Result<(), Fail> {
         "(W 5 (1 2 ))",
         "(W 5 ( ))",
         "(W 5 (1)",
-        "(E 1)",
+        "(Q 1)",
     ];
-    for line in lines {
-        assert!(rt;
-            read_line(rt.alloc(), line.as_bytes())?.is_none(),
-            "{}",
-            line
-        );
-    }
+    refuses(&rt, rt.alloc(), &lines)?;
     assert!(rt; read_line(rt.alloc(), &[0xff; 9])?.is_none());
     Ok(())
+}
+
+#[test]
+fn refuses_other_calls(rt: HostRuntime) -> Result<(), Fail> {
+    let lines: [&str; 18] = [
+        "(E 01)",
+        "(U 00)",
+        "(E  1)",
+        "(D 1 )",
+        "(R 1) ",
+        " (R 1)",
+        "( E 1)",
+        "(E 1",
+        "E 1)",
+        "(D 1))",
+        "(D 1]",
+        "(E )",
+        "(E1)",
+        "(U 1 2)",
+        "(R -1)",
+        "(e 1)",
+        "(r 1)",
+        "(U 18446744073709551616)",
+    ];
+    refuses(&rt, rt.alloc(), &lines)
 }

@@ -1,7 +1,7 @@
-use Rattle.std.proofs.Common.{◌≡◌, ◌-◌, [], ◌∷◌, length, take, drop, arith}
+use Rattle.std.proofs.Common.{◌≡◌, ◌-◌, ◌∷◌, length, take, drop, arith}
 use Rattle.std.proofs.lemmas.Grind.{common_steps}
 use Rattle.script.proofs.Unique.{the_form}
-use Rattle.script.proofs.Lines.{timer_no_deadline, timer_no_space, timer_no_period, timer_no_end, timer_read}
+use Rattle.script.proofs.Lines.{timer_no_deadline, timer_no_space, timer_no_period, timer_read}
 use Rattle.script.proofs.read_timer.Goals as goal
 
 pub returns-in_err-deadline : goal.returns-in_err-deadline
@@ -12,24 +12,15 @@ returns-in_default c =
     timer_no_space c.args.text.now _ c.in_ok-deadline.rest.now c.in_ok-deadline.ensures
     (λ s e. grind (arith, common_steps))
 
-pub returns-in_err-read_number : goal.returns-in_err-read_number
-returns-in_err-read_number c =
+pub returns-in_err-period : goal.returns-in_err-period
+returns-in_err-period c =
     let rest = c.in_ok-deadline.rest.now in
     let b : rest ≡ 32 ∷ take (length rest - 1) (drop 1 rest) = grind (arith, common_steps) in
-    rw c.from_residual-in_err-read_number.ensures
-    (timer_no_period c.args.text.now _ rest _ c.in_ok-deadline.ensures b c.in_err-read_number.ensures)
+    rw c.from_residual-in_err-period.ensures
+    (timer_no_period c.args.text.now _ rest _ c.in_ok-deadline.ensures b c.in_err-period.ensures)
 
-pub returns-in_default-eq41 : goal.returns-in_default-eq41
-returns-in_default-eq41 c =
+pub returns : goal.returns
+returns c =
     let rest = c.in_ok-deadline.rest.now in
     let b : rest ≡ 32 ∷ take (length rest - 1) (drop 1 rest) = grind (arith, common_steps) in
-    let end = c.in_ok-read_number.field-0.1.now in
-    let z : end ≡ 41 ∷ [] = grind (arith, common_steps) in
-    the_form _ _ (timer_read c.args.text.now _ rest _ _ end c.in_ok-deadline.ensures b c.in_ok-read_number.ensures z)
-
-pub returns-in_default-2 : goal.returns-in_default-2
-returns-in_default-2 c =
-    let rest = c.in_ok-deadline.rest.now in
-    let b : rest ≡ 32 ∷ take (length rest - 1) (drop 1 rest) = grind (arith, common_steps) in
-    timer_no_end c.args.text.now _ rest _ _ c.in_ok-read_number.field-0.1.now c.in_ok-deadline.ensures b c.in_ok-read_number.ensures
-    (λ e. grind (arith, common_steps))
+    the_form _ _ (timer_read c.args.text.now _ rest _ _ c.in_ok-deadline.ensures b c.in_ok-period.ensures)

@@ -1,0 +1,17 @@
+-- What the handlers of a script do, and what a number in it names.
+use Rattle.std.specs.Prelude.{ℕ, List, Result, if◌then◌else◌, nat_eq}
+use Rattle.std.specs.List.{slice_get}
+use Rattle.std.specs.Option.{ok_or}
+use Rattle.token.specs.declared.error.Error.{Error}
+use Rattle.token.specs.declared.error.Error.TheVariants.{BadForm}
+use Rattle.token.specs.declared.token.Token.{Token}
+use Rattle.alarm.specs.declared.alarm.TimeoutAction.{TimeoutAction}
+use Rattle.alarm.specs.declared.alarm.TimeoutAction.TheVariants.{Drop, ToDuration}
+
+-- a timer rings again after its period, or never where that is 0
+abbrev pub repeated : ℕ → TimeoutAction
+repeated p = if nat_eq p 0 then Drop else ToDuration p
+
+-- the token of the n-th accepted insert, from 0; a line that names another is of no form
+abbrev pub nth_token : List Token → ℕ → Result Token Error
+nth_token ts n = ok_or (slice_get ts n) BadForm

@@ -1,0 +1,20 @@
+use Rattle.std.proofs.Common.{ap, subst, arith}
+use Rattle.std.proofs.lemmas.Grind.{common_steps}
+use Rattle.token.specs.Refusal.{outcome}
+use Rattle.sys.specs.Laws.{In}
+use Rattle.model.proofs.Kept.{listed_joins}
+use Rattle.model.proofs.Calls.{renewed}
+use Rattle.loop_handle.proofs.handle.Registry.reregister.Goals as goal
+
+pub returns-in_err-reregister-clause-is : goal.returns-in_err-reregister-clause-is
+returns-in_err-reregister-clause-is g c =
+    let e = c.reregister.ensures in
+    (e.0, e.1, renewed g.S.EventSource c.args.self.now.lifecycle _ _ c.args.source.now c.reregister.new.self c.args.token c.new.result c.reregister.new.factory e.0 (outcome c.reregister.result) _ (grind (arith, common_steps)) c.new.ensures e.2 (grind (arith, common_steps)))
+
+pub returns-clause-is : goal.returns-clause-is
+returns-clause-is g c =
+    let e = c.reregister.ensures in
+    (e.0, e.1, renewed g.S.EventSource c.args.self.now.lifecycle _ _ c.args.source.now c.reregister.new.self c.args.token c.new.result c.reregister.new.factory e.0 (outcome c.reregister.result) _ (grind (arith, common_steps)) c.new.ensures e.2 (grind (arith, common_steps)))
+
+pub returns-clause-joins : goal.returns-clause-joins
+returns-clause-joins g c u m = listed_joins c.needs_hooks-hooks.result c.args.token c.args.self.now.lifecycle u (subst (In u) (ap (λ v. v.1) c.enter.ensures) m)

@@ -1,0 +1,44 @@
+// Handlers of the tests. They obey the law of their trait, and nothing more is said of them.
+ghost use Rattle.std.proofs.Common.{rules};
+ghost use Rattle.std.specs.Prelude.{◌≡◌};
+ghost use Rattle.post_action.specs.declared.PostAction.TheVariants.{Continue};
+ghost use Rattle.token.specs.Refusal.{done};
+
+use generic::GenericHandler;
+use kinds::Errands;
+use poller::Readiness;
+use post_action::PostAction;
+use timer::{TimeoutAction, TimerHandler};
+use token::Error;
+
+// Answers each event with Continue.
+#[derive(Clone, Copy)]
+pub struct Stays;
+
+impl GenericHandler for Stays {
+    ghost handles = { λ h x es r h' es'. (r ≡ done Continue) × (es' ≡ es) };
+
+    ghost handling = { Prim.search rules };
+
+    fn handle(
+        &mut self,
+        _readiness: Readiness,
+        _errands: &mut Errands,
+    ) -> Result<PostAction, Error> {
+        Ok(PostAction::Continue)
+    }
+}
+
+// Rings once.
+#[derive(Clone, Copy)]
+pub struct Leaves;
+
+impl TimerHandler for Leaves {
+    ghost rings = { λ h d es r h' es'. es' ≡ es };
+
+    ghost ringing = { Prim.search rules };
+
+    fn ring(&mut self, _deadline: u64, _errands: &mut Errands) -> TimeoutAction {
+        TimeoutAction::Drop
+    }
+}
