@@ -1,12 +1,12 @@
 //! Stands in for the crate `polling`: a list of entries with distinct files,
-//! no level mode, and readiness that comes from the script alone.
+//! no level mode, and readiness and faults that come from the script alone.
 
 use std::io::{Error, ErrorKind, Result};
 use std::os::fd::{AsFd, AsRawFd, BorrowedFd, RawFd};
 use std::sync::{Mutex, MutexGuard};
 use std::time::Duration;
 
-use witness::Note;
+use witness::{Fault, Note, Step};
 
 /// How many entries may stand.
 const ROOM: usize = 256;
@@ -81,6 +81,7 @@ impl Poller {
     /// # Safety
     /// None is needed here; the mark is that of the crate stood in for.
     pub unsafe fn add_with_mode(&self, file: RawFd, interest: Event, mode: PollMode) -> Result<()> {
+        let fate = next_fate();
         let mut entries = self.entries();
         if entries.iter().any(|entry| entry.file == file) {
             return Err(ErrorKind::AlreadyExists.into());
@@ -88,6 +89,7 @@ impl Poller {
         if entries.len() >= ROOM {
             return Err(ErrorKind::StorageFull.into());
         }
+        fate?;
         entries.push(Entry {
             file,
             interest,
@@ -102,8 +104,10 @@ impl Poller {
     }
 
     pub fn modify_with_mode(&self, file: impl AsFd, interest: Event, mode: PollMode) -> Result<()> {
+        let fate = next_fate();
         let mut entries = self.entries();
         let at = position(&entries, file)?;
+        fate?;
         entries[at].interest = interest;
         entries[at].mode = mode;
         entries[at].armed = true;
@@ -111,14 +115,22 @@ impl Poller {
     }
 
     pub fn delete(&self, file: impl AsFd) -> Result<()> {
+        let fate = next_fate();
         let mut entries = self.entries();
         let at = position(&entries, file)?;
+        fate?;
         entries.remove(at);
         Ok(())
     }
 
     /// Never blocks: what is not ready now cannot become so during the wait.
+    /// One that fails or is interrupted leaves what is ready.
     pub fn wait(&self, events: &mut Events, _timeout: Option<Duration>) -> Result<usize> {
+        match witness::next_step() {
+            Step::Fail(code) => return Err(Error::other(Fault(code))),
+            Step::Interrupt => return Err(ErrorKind::Interrupted.into()),
+            Step::Work => {}
+        }
         let mut entries = self.entries();
         let mut tried = Vec::new();
         for file in witness::take_ready() {
@@ -142,6 +154,15 @@ impl Poller {
 
     fn entries(&self) -> MutexGuard<'_, Vec<Entry>> {
         self.entries.lock().unwrap()
+    }
+}
+
+/// Whether the next add, modify or delete works past its own checks. Such a call
+/// takes its step before them and cannot be interrupted.
+fn next_fate() -> Result<()> {
+    match witness::next_step() {
+        Step::Fail(code) => Err(Error::other(Fault(code))),
+        Step::Work | Step::Interrupt => Ok(()),
     }
 }
 

@@ -6,8 +6,8 @@ use Rattle.token.specs.declared.error.Error.{Error}
 use Rattle.token.specs.declared.token.Token.{Token}
 use Rattle.token.specs.Refusal.{number_of}
 use Rattle.loop_handle.specs.declared.handle.InsertError.{InsertError}
-use Rattle.event_loop.specs.declared.sheet.Line.{Line}
-use Rattle.event_loop.specs.Printed.{line_text}
+use Rattle.sheet.specs.declared.Line.{Line}
+use Rattle.sheet.specs.Printed.{line_text}
 
 abbrev pub refusal_text : Error → List ℕ
 refusal_text e = codes "(no " ++ decimal (number_of e) ++ codes ")"

@@ -1,19 +1,23 @@
 // The answer to a line, as text.
-ghost use Rattle.std.specs.Prelude.{◌≡◌, ◌++◌, IfOk, string_bytes};
+ghost use Rattle.std.specs.Prelude.{◌≡◌, ◌++◌, ℕ, List, IfOk, string_bytes};
+ghost use Rattle.bench.specs.Calls.{Answered};
 ghost use Rattle.bench.specs.Answer.{call_text, dispatch_text, insert_text, refusal_text, removal_text, sheet_text};
 
 use crate::bench::{Bench, Fixed, Repeat, Source};
 use event_loop::{InsertError, Line};
 use generic::Generic;
 use kinds::{Either, EventSource};
-use poller::{Interest, Mode};
+use poller::{BenchPoller, Interest, Mode, Poller};
 use script::Form;
 use std::alloc::AllocError;
+use sys::{Clock, SetClock};
 use timer::Timer;
 use token::{Error, Token};
 
 // Does what the line asks for, and writes the answer.
-pub fn perform(bench: &mut Bench, form: Option<Form>, out: &mut String) -> Result<(), AllocError> {
+pub fn perform(bench: &mut Bench, form: Option<Form>, out: &mut String) -> Result<(), AllocError>
+    ensures { IfOk result (λ _. (text : List ℕ) × (string_bytes out.new ≡ string_bytes out.old ++ text) × Answered ⟦<BenchPoller as Poller>⟧ ⟦<SetClock as Clock>⟧ ⟦<Source as EventSource>⟧ form bench.old text bench.new) }
+{
     match form {
         Some(Form::Timer { deadline, period }) => {
             let timer = Timer::from_deadline(deadline, Repeat { period });

@@ -1,16 +1,16 @@
 // The sources that a script speaks of, and the loop over them.
-ghost use Rattle.std.specs.Prelude.{◌≡◌};
+ghost use Rattle.std.specs.Prelude.{◌≡◌, false, [], IfOk};
 ghost use Rattle.bench.specs.Handlers.{nth_token, repeated};
 ghost use Rattle.token.specs.Refusal.{done};
 ghost use Rattle.std.proofs.Common.{rules};
 
 use event_loop::{EventLoop, InsertError};
 use generic::{Generic, GenericHandler};
-use kinds::{Either, Errands};
-use poller::{BenchPoller, Readiness};
+use kinds::{Either, Errands, EventSource};
+use poller::{BenchPoller, Poller, Readiness};
 use post_action::PostAction;
 use std::alloc::{AllocError, Global};
-use sys::{SetClock, Setting};
+use sys::{Clock, SetClock, Setting};
 use timer::{TimeoutAction, Timer, TimerHandler};
 use token::{Error, Token};
 
@@ -62,7 +62,19 @@ pub struct Bench {
 }
 
 impl Bench {
-    pub fn new(heap: Global) -> Result<Bench, AllocError> {
+    ghost use Rattle.bench.specs.Calls.{Dispatches, Inserts, Removes, Told, accepted};
+    ghost use Rattle.event_loop.specs.State.{Idle, handle_of, polling_of};
+    ghost use Rattle.loop_handle.specs.State.{loop_over};
+    ghost use Rattle.model.specs.Calls.{disable_of, enable_of, update_of};
+    ghost use Rattle.model.specs.State.{new_loop};
+    ghost use Rattle.poller.specs.Bench.{bench_of};
+
+    pub fn new(heap: Global) -> Result<Bench, AllocError>
+        ensures is { IfOk result (λ b. loop_over ⟦<BenchPoller as Poller>⟧ (handle_of b.event_loop) ≡ new_loop [] 256 false) }
+        ensures bench { IfOk result (λ b. (bench_of (polling_of b.event_loop).poller ≡ record { entries = []; ready = []; steps = [] }) × ((polling_of b.event_loop).clock.time ≡ 0)) }
+        ensures idle { IfOk result (λ b. Idle b.event_loop) }
+        ensures inserts { IfOk result (λ b. accepted b ≡ []) }
+    {
         let poller = BenchPoller::new(heap)?;
         let inserted = Vec::new(heap);
         let event_loop = EventLoop::new(heap, poller, SetClock { time: 0 })?;
@@ -82,7 +94,7 @@ impl Bench {
 
     // The token of the n-th accepted insert, from 0. A line that names another is of no form.
     fn token(&self, n: u64) -> Result<Token, Error>
-        ensures { result ≡ nth_token self.now.inserted.items n }
+        ensures { result ≡ nth_token (accepted self.now) n }
     {
         let token = usize::try_from(n).ok().and_then(|i| self.inserted.get(i));
         token.copied().ok_or(Error::BadForm)
@@ -91,7 +103,9 @@ impl Bench {
     pub fn insert(
         &mut self,
         source: Source,
-    ) -> Result<Result<Token, InsertError<Source>>, AllocError> {
+    ) -> Result<Result<Token, InsertError<Source>>, AllocError>
+        ensures { IfOk result (λ r. Inserts ⟦<BenchPoller as Poller>⟧ ⟦<SetClock as Clock>⟧ ⟦<Source as EventSource>⟧ source self.old r self.new) }
+    {
         // room first: an answer that hands the source back cannot be dropped
         self.inserted.reserve(1)?;
         let answer = self.event_loop.insert(source);
@@ -101,28 +115,38 @@ impl Bench {
         Ok(answer)
     }
 
-    pub fn enable(&mut self, n: u64) -> Result<(), Error> {
+    pub fn enable(&mut self, n: u64) -> Result<(), Error>
+        ensures { Told ⟦<BenchPoller as Poller>⟧ ⟦<SetClock as Clock>⟧ ⟦<Source as EventSource>⟧ (enable_of ⟦<Source as EventSource>⟧) n self.old result self.new }
+    {
         let token = self.token(n)?;
         self.event_loop.enable(token)
     }
 
-    pub fn update(&mut self, n: u64) -> Result<(), Error> {
+    pub fn update(&mut self, n: u64) -> Result<(), Error>
+        ensures { Told ⟦<BenchPoller as Poller>⟧ ⟦<SetClock as Clock>⟧ ⟦<Source as EventSource>⟧ (update_of ⟦<Source as EventSource>⟧) n self.old result self.new }
+    {
         let token = self.token(n)?;
         self.event_loop.update(token)
     }
 
-    pub fn disable(&mut self, n: u64) -> Result<(), Error> {
+    pub fn disable(&mut self, n: u64) -> Result<(), Error>
+        ensures { Told ⟦<BenchPoller as Poller>⟧ ⟦<SetClock as Clock>⟧ ⟦<Source as EventSource>⟧ (disable_of ⟦<Source as EventSource>⟧) n self.old result self.new }
+    {
         let token = self.token(n)?;
         self.event_loop.disable(token)
     }
 
-    pub fn remove(&mut self, n: u64) -> Result<bool, Error> {
+    pub fn remove(&mut self, n: u64) -> Result<bool, Error>
+        ensures { Removes ⟦<BenchPoller as Poller>⟧ ⟦<SetClock as Clock>⟧ ⟦<Source as EventSource>⟧ n self.old result self.new }
+    {
         let token = self.token(n)?;
         Ok(self.event_loop.remove(token))
     }
 
     // Sets the clock and the ready files, and dispatches without a timeout.
-    pub fn dispatch(&mut self, clock: u64, files: Vec<u32>) -> Result<(), Error> {
+    pub fn dispatch(&mut self, clock: u64, files: Vec<u32>) -> Result<(), Error>
+        ensures { Dispatches ⟦<BenchPoller as Poller>⟧ ⟦<SetClock as Clock>⟧ ⟦<Source as EventSource>⟧ clock files.items self.old result self.new }
+    {
         self.event_loop.arrange(&mut Setting {
             time: clock,
             ready: Some(files),

@@ -1,4 +1,1 @@
-pub mod Decide
-pub mod Remaining
-pub mod Printed
 pub mod State

@@ -1,16 +1,14 @@
 // The making and the end of a loop, and a dispatch: hooks, a wait, and a turn for each event.
-ghost use Rattle.std.specs.Prelude.{◌≡◌, ◌+◌, ◌≤◌, ◌++◌, length, map, vec_len};
-ghost use Rattle.std.specs.Prelude.{[], IfOk};
-ghost use Rattle.event_loop.specs.Printed.{line_of};
-ghost use Rattle.event_loop.specs.State.{Idle};
-ghost use Rattle.loop_handle.specs.State.{Orderly, loop_of};
+ghost use Rattle.std.specs.Prelude.{◌≡◌, ℕ, ◌⊎◌, List, [], IfOk};
+ghost use Rattle.std.specs.Option.{option_map};
+ghost use Rattle.event_loop.specs.State.{Aside, Dispatching, Idle, handle_of, polling_of};
+ghost use Rattle.loop_handle.specs.State.{Orderly, loop_over};
+ghost use Rattle.model.specs.Course.{Takes};
+ghost use Rattle.model.specs.Dispatch.{dispatch_of, hands_out, timeout_by, woken};
+ghost use Rattle.model.specs.Laws.{NoneLost, Stopped, Woke};
 ghost use Rattle.model.specs.State.{new_loop};
-ghost use Rattle.sys.specs.Polling.{state_of};
-ghost use Rattle.sys.specs.World.{world_of};
-ghost use Rattle.event_loop.specs.declared.sheet.Verdict.TheVariants.{Lost};
+ghost use Rattle.token.specs.Refusal.{done, outcome};
 
-use crate::inner::LoopInner;
-use crate::sheet::{Line, Sheet, Verdict};
 use crate::state::EventLoop;
 use crate::wait::wait;
 use bounded::Bounded;
@@ -18,40 +16,11 @@ use kinds::{Errands, EventSource};
 use list::{Place, Slot};
 use loop_handle::LoopHandle;
 use poller::Poller;
+use sheet::Sheet;
 use std::alloc::{AllocError, Global};
 use sys::{Clock, Environment, PollEvent, PollEvents};
 use token::Error;
-
-impl<P: Poller, C: Clock, S: EventSource> LoopInner<P, C, S> {
-    // Gives each event its turn and its line. At a fault the later events are lost.
-    fn turns(&mut self, events: &[PollEvent], sheet: &mut Sheet) -> Result<(), Error>
-        requires { vec_len sheet.old.items + length events.now ≤ 640 }
-        ensures { vec_len sheet.new.items ≡ vec_len sheet.old.items + length events.now }
-    {
-        for (i, &event) in events.iter().enumerate() {
-            let turn = self.turn(event);
-            // a source whose turn failed was called
-            let verdict = turn.unwrap_or(Verdict::Delivered);
-            sheet.items.push_reserved(Line::new(event, verdict));
-            if let Err(error) = turn {
-                lose(&events[i + 1..], sheet);
-                return Err(error);
-            }
-        }
-        Ok(())
-    }
-}
-
-// Notes events whose turn never comes, one by one, since `extend` may allocate. A function of its own, for faults
-// in a turn, in the hooks' turns and in the wait; each of the three answers its own fault.
-fn lose(events: &[PollEvent], sheet: &mut Sheet)
-    requires { vec_len sheet.old.items + length events.now ≤ 640 }
-    ensures { sheet.new.items.items ≡ sheet.old.items.items ++ map (line_of Lost) events.now }
-{
-    for &event in events {
-        sheet.items.push_reserved(Line::new(event, Verdict::Lost));
-    }
-}
+use turns::{LoopInner, lose};
 
 impl<P: Poller, C: Clock, S: EventSource> EventLoop<P, C, S> {
     // The only call that allocates: it reserves all that the loop will ever use.
@@ -59,10 +28,10 @@ impl<P: Poller, C: Clock, S: EventSource> EventLoop<P, C, S> {
     where
         P: Drop,
         C: Drop,
-        ensures is { IfOk result (λ l. loop_of l.inner.handle (world_of P.Poller l.inner.handle.registry.poll) ≡ new_loop (P.Poller.entries poller) (P.Poller.most poller) P.Poller.LEVEL) }
-        ensures poll { IfOk result (λ l. ((state_of l.inner.handle.registry.poll).poller ≡ poller) × ((state_of l.inner.handle.registry.poll).clock ≡ clock)) }
+        ensures is { IfOk result (λ l. loop_over P.Poller (handle_of l) ≡ new_loop (P.Poller.entries poller) (P.Poller.most poller) P.Poller.LEVEL) }
+        ensures poll { IfOk result (λ l. ((polling_of l).poller ≡ poller) × ((polling_of l).clock ≡ clock)) }
         ensures idle { IfOk result Idle }
-        ensures order { P.Poller.entries poller ≡ [] → IfOk result (λ l. Orderly P.Poller S.EventSource [] l.inner.handle) }
+        ensures order { P.Poller.entries poller ≡ [] → IfOk result (λ l. Orderly P.Poller S.EventSource [] (handle_of l)) }
     {
         let synthetic_events = Bounded::new(heap)?;
         let events = PollEvents::new(heap)?;
@@ -116,12 +85,28 @@ impl<P: Poller, C: Clock, S: EventSource> EventLoop<P, C, S> {
     }
 
     // Lets the world change what the poller and the clock will say.
-    pub fn arrange<E: Environment<P, C>>(&mut self, environment: &mut E) {
+    pub fn arrange<E: Environment<P, C>>(&mut self, environment: &mut E)
+        ensures is { E.Environment.arranges environment.old (polling_of self.old).poller (polling_of self.old).clock environment.new (polling_of self.new).poller (polling_of self.new).clock }
+        ensures same { loop_over P.Poller (handle_of self.new) ≡ loop_over P.Poller (handle_of self.old) }
+        ensures aside { Aside self.old self.new }
+        ensures order { (h : List ℕ) → Orderly P.Poller S.EventSource h (handle_of self.old) → Orderly P.Poller S.EventSource h (handle_of self.new) }
+    {
         self.inner.handle.registry.poll.arrange(environment);
     }
 
     // Hands the events of one wait to their sources. The sheet says what became of each.
-    pub fn dispatch(&mut self, timeout: Option<u64>) -> Result<(), Error> {
+    pub fn dispatch(&mut self, timeout: Option<u64>) -> Result<(), Error>
+        ensures is { Dispatching P.Poller C.Clock self.old (outcome result) self.new (λ l q xs o. Takes S.EventSource (dispatch_of S.EventSource timeout l q) xs o) }
+        ensures order { (h : List ℕ) → Orderly P.Poller S.EventSource h (handle_of self.old) → Orderly P.Poller S.EventSource h (handle_of self.new) }
+        ensures lost { outcome result ≡ done tt → NoneLost self.new.sheet.items.items }
+        ensures lists { Dispatching P.Poller C.Clock self.old (outcome result) self.new (λ l q xs o. Stopped q xs o ⊎ Woke timeout l.world q xs o) }
+    {
+        self.dispatch_events(timeout)
+    }
+
+    fn dispatch_events(&mut self, timeout: Option<u64>) -> Result<(), Error>
+        ensures { Dispatching P.Poller C.Clock self.old (outcome result) self.new (λ l q xs o. Takes S.EventSource (dispatch_of S.EventSource timeout l q) xs o) }
+    {
         let EventLoop {
             inner,
             synthetic_events,
@@ -131,15 +116,21 @@ impl<P: Poller, C: Clock, S: EventSource> EventLoop<P, C, S> {
         sheet.items.clear();
         let start = inner.handle.registry.poll.now();
         inner.before_sleep(synthetic_events)?;
-        let timeout = if synthetic_events.items.is_empty() {
-            timeout
-        } else {
-            Some(0)
-        };
-        match wait(&mut inner.handle.registry.poll, timeout, start, events) {
+        let timeout = timeout_with(synthetic_events, timeout);
+        let answer = wait(&mut inner.handle.registry.poll, timeout, start, events);
+        self.after_wait(answer)
+    }
+
+    // Where the wait failed its events are lost.
+    fn after_wait(&mut self, answer: Option<Result<(), Error>>) -> Result<(), Error>
+        requires { self.old.sheet.items.items ≡ [] }
+        ensures { Dispatching P.Poller C.Clock self.old (outcome result) self.new (λ l q xs o. Takes S.EventSource (woken S.EventSource (option_map outcome answer) q self.old.events.items.items l) xs o) }
+    {
+        match answer {
             None => Ok(()),
             Some(Ok(())) => self.handle_events(),
             Some(Err(error)) => {
+                let EventLoop { events, sheet, .. } = self;
                 lose(events.items.as_slice(), sheet);
                 Err(error)
             }
@@ -149,7 +140,8 @@ impl<P: Poller, C: Clock, S: EventSource> EventLoop<P, C, S> {
     // Shows the hooks what the wait brought. Then a turn for each event: the hooks' first, then the
     // poller's and the timers'.
     fn handle_events(&mut self) -> Result<(), Error>
-        requires { vec_len self.old.sheet.items ≡ 0 }
+        requires { self.old.sheet.items.items ≡ [] }
+        ensures { Dispatching P.Poller C.Clock self.old (outcome result) self.new (λ l q xs o. Takes S.EventSource (hands_out S.EventSource q self.old.events.items.items l) xs o) }
     {
         let EventLoop {
             inner,
@@ -165,5 +157,16 @@ impl<P: Poller, C: Clock, S: EventSource> EventLoop<P, C, S> {
             return Err(error);
         }
         inner.turns(events.items.as_slice(), sheet)
+    }
+}
+
+// While events of the hooks wait, a wait takes no time.
+fn timeout_with(waiting: &Bounded<PollEvent, 128>, timeout: Option<u64>) -> Option<u64>
+    ensures { result ≡ timeout_by waiting.now.items.items timeout }
+{
+    if waiting.items.is_empty() {
+        timeout
+    } else {
+        Some(0)
     }
 }

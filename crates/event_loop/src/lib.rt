@@ -2,14 +2,9 @@
 #![tactic(auto)]
 
 mod calls;
-mod decide;
 mod dispatch;
-mod hooks;
-mod inner;
 mod remaining;
-mod sheet;
 mod state;
-mod turn;
 mod wait;
 
 pub use loop_handle::InsertError;

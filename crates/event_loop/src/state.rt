@@ -1,8 +1,8 @@
 // The loop's type.
-use crate::inner::LoopInner;
-use crate::sheet::Sheet;
 use bounded::Bounded;
+use sheet::Sheet;
 use sys::{PollEvent, PollEvents};
+use turns::LoopInner;
 
 pub struct EventLoop<P, C, S> {
     pub(crate) inner: LoopInner<P, C, S>,

@@ -1,4 +1,10 @@
 // A wait with its retries.
+ghost use Rattle.std.specs.Prelude.{◌≡◌};
+ghost use Rattle.std.specs.Option.{option_map};
+ghost use Rattle.model.specs.Retries.{Retries, interrupted};
+ghost use Rattle.sys.specs.World.{Between};
+ghost use Rattle.token.specs.Refusal.{outcome};
+
 use crate::remaining::remaining;
 use poller::Poller;
 use sys::{Clock, Poll, PollEvents};
@@ -10,16 +16,26 @@ pub fn wait<P: Poller, C: Clock>(
     timeout: Option<u64>,
     start: u64,
     events: &mut PollEvents,
-) -> Option<Result<(), Error>> {
+) -> Option<Result<(), Error>>
+    ensures { Between P.Poller C.Clock poll.old poll.new (λ w xs w'. Retries 63 timeout start timeout w xs (option_map outcome result) events.new.items.items w') }
+{
     let mut left = timeout;
-    for _ in 0..63 {
-        match poll.poll(left, events) {
-            Err(Error::Interrupted) => {}
-            answer => return Some(answer),
+    let mut retries = 63u8;
+    let answer = loop {
+        let answer = poll.poll(left, events);
+        if retries == 0 || !is_interrupted(answer) {
+            break answer;
         }
+        retries -= 1;
         if let Some(given) = timeout {
             left = Some(remaining(given, start, poll.now())?);
         }
-    }
-    Some(poll.poll(left, events))
+    };
+    Some(answer)
+}
+
+fn is_interrupted(answer: Result<(), Error>) -> bool
+    ensures { result ≡ interrupted (outcome answer) }
+{
+    matches!(answer, Err(Error::Interrupted))
 }

@@ -1,13 +1,19 @@
--- What an event of a Generic comes to.
-use Rattle.std.specs.Prelude.{◌≡◌, ◌⊎◌, List, [], Some}
+-- A Generic as it is made, and what an event of it comes to.
+use Rattle.std.specs.Prelude.{◌≡◌, ℕ, ◌⊎◌, List, [], Some, None}
 use Rattle.token.specs.declared.token.Token.{Token}
 use Rattle.token.specs.Refusal.{Outcome, done}
+use Rattle.poller.specs.declared.entry.Interest.{Interest}
+use Rattle.poller.specs.declared.entry.Mode.{Mode}
 use Rattle.poller.specs.declared.entry.Readiness.{Readiness}
 use Rattle.post_action.specs.declared.PostAction.{PostAction}
 use Rattle.post_action.specs.declared.PostAction.TheVariants.{Continue}
 use Rattle.sys.specs.World.{Exchange, World}
 use Rattle.kinds.specs.declared.errand.Errand.{Errand}
 use Rattle.generic.specs.declared.generic.Generic.{Generic}
+
+-- made over a file, it holds nothing
+abbrev pub generic_over : {H : Type 0} → ℕ → Interest → Mode → H → Generic H
+generic_over f i m h = record { file = record { file = f; interest = i; mode = m; tickets = None }; handler = h }
 
 module _ {H : Type 0} (handles : H → Readiness → List Errand → Outcome PostAction → H → List Errand → Type 0) (s : Generic H) (x : Readiness) (t : Token) (es : List Errand) where
   -- an event under its own token goes to the handler

@@ -1,5 +1,5 @@
 // A source over one file.
-ghost use Rattle.generic.specs.Events.{Handled};
+ghost use Rattle.generic.specs.Events.{Handled, generic_over};
 ghost use Rattle.one_file.specs.Calls.{Leaves, Registers, Reregisters, Unregisters, meaning};
 ghost use Rattle.one_file.specs.Alone.{one_token};
 ghost use Rattle.std.specs.Prelude.{◌≡◌, false, None};
@@ -26,7 +26,7 @@ pub struct Generic<H> {
 impl<H: GenericHandler> Generic<H> {
     // A new one holds nothing.
     pub fn new(file: u32, interest: Interest, mode: Mode, handler: H) -> Generic<H>
-        ensures { result ≡ record { file = record { file = file; interest = interest; mode = mode; tickets = None }; handler = handler } }
+        ensures { result ≡ generic_over file interest mode handler }
     {
         Generic {
             file: OneFile::new(file, interest, mode),

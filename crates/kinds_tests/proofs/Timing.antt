@@ -13,7 +13,7 @@ use Rattle.sys.specs.declared.event.PollEvent.{PollEvent}
 use Rattle.sys.specs.Laws.{In}
 use Rattle.sys.specs.Polling.{Polls, State, Takes, Wakes}
 use Rattle.sys.specs.Timeout.{TimedBy}
-use Rattle.sys.specs.World.{Asked, Exchange, added, deleted, modified, read}
+use Rattle.sys.specs.World.{Asked, Exchange, added, deleted, modified, read, waited}
 use Rattle.sys.proofs.Entries.{in_filter}
 use Rattle.rules.specs.Meaning.{Nothing}
 use Rattle.rules.specs.Timers.{Timers, foreign}
@@ -77,6 +77,7 @@ module _ {C : Type 0} (clock : ClockOf C) where
   asked_readings poller (added q r ∷ xs) p p' c c' h = asked_readings poller xs h.0 p' c c' h.2
   asked_readings poller (modified q r ∷ xs) p p' c c' h = asked_readings poller xs h.0 p' c c' h.2
   asked_readings poller (deleted f r ∷ xs) p p' c c' h = asked_readings poller xs h.0 p' c c' h.2
+  asked_readings poller (waited t r vs ∷ xs) p p' c c' h = asked_readings poller xs h.0 p' c c' h.2
   asked_readings poller (read n ∷ xs) p p' c c' h = let r = asked_readings poller xs p p' h.0 c' h.2 in (n ∷ r.0, (h.0, h.1, r.1))
 
   timed_readings : (given o : Option ℕ) (c c' : C) (t : Option ℕ) → TimedBy clock given o c c' t → (ns : List ℕ) × Readings clock c ns c'

@@ -1,4 +1,7 @@
 // What each test begins with: a polling system over one of the pollers, a factory and a list of errands.
+ghost use Rattle.std.specs.Prelude.{◌≡◌};
+ghost use Rattle.poller.specs.Line.{LinesSet, line_of};
+
 use crate::calls::{Call, Came};
 use kinds::{Errand, Errands, EventSource, Reply};
 use poller::{BenchPoller, LinePoller, Poller, Readiness, Step};
@@ -46,6 +49,8 @@ pub struct Lines {
 }
 
 impl Environment<LinePoller, SetClock> for Lines {
+    ghost arranges = { λ l p c l' p' c'. LinesSet (line_of p) l.lines (line_of p') × (c'.time ≡ l.time) };
+
     fn arrange(&mut self, poller: &mut LinePoller, clock: &mut SetClock) {
         poller.set_lines(self.lines);
         clock.time = self.time;

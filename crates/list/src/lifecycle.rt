@@ -1,8 +1,7 @@
 // The sources that want hooks, by token.
-ghost use Rattle.std.specs.Prelude.{◌≡◌, ◌≤◌, [], length, IfOk, nat_le};
+ghost use Rattle.std.specs.Prelude.{◌≡◌, [], length, IfOk, nat_le};
 ghost use Rattle.token.specs.Refusal.{outcome};
 ghost use Rattle.list.specs.Entries.{enter_of, left};
-ghost use Rattle.std.specs.List.{slice_get};
 
 use bounded::Bounded;
 use std::alloc::{AllocError, Global};
@@ -32,24 +31,10 @@ impl Lifecycle {
         Ok(Lifecycle { entries })
     }
 
-    pub fn len(&self) -> usize
-        ensures is { result ≡ length self.now }
-        ensures few { result ≤ 128 }
-    {
-        self.entries.items.len()
-    }
-
     pub fn as_slice(&self) -> &[Token]
         ensures { result.now ≡ self.now }
     {
         self.entries.items.as_slice()
-    }
-
-    // The i-th entry.
-    pub fn get(&self, i: usize) -> Option<Token>
-        ensures { result ≡ slice_get self.now i }
-    {
-        self.entries.items.get(i).copied()
     }
 
     pub fn is_full(&self) -> bool

@@ -2,6 +2,7 @@
 use Rattle.std.specs.Prelude.{ℕ, List, Result, Ok, Err, None}
 use Rattle.token.specs.Refusal.{number_of, code_of, refused}
 use Rattle.token.specs.declared.token.Token.{Token}
+use Rattle.list.specs.declared.slots.Slot.{Slot}
 use Rattle.poller.specs.declared.poller.Poller.{Ghosts as PollerOf}
 use Rattle.sys.specs.declared.clock.Clock.{Ghosts as ClockOf}
 use Rattle.sys.specs.World.{Between, World, world_of}
@@ -18,6 +19,14 @@ use Rattle.loop_handle.specs.declared.handle.LoopHandle.{LoopHandle}
 abbrev pub loop_of : {P C S : Type 0} → LoopHandle P C S → World → Loop S
 loop_of l w = record { slots = l.sources; lifecycle = l.registry.lifecycle; world = w; idles = l.idles; pending = l.pending_action }
 
+-- the loop over the world of its own poll
+abbrev pub loop_over : {P C S : Type 0} → PollerOf P → LoopHandle P C S → Loop S
+loop_over poller l = loop_of l (world_of poller l.registry.poll)
+
+-- the same with other slots, by name, as clauses say it
+abbrev pub with_sources : {P C S : Type 0} → LoopHandle P C S → List (Slot S) → LoopHandle P C S
+with_sources l xs = record l { sources = xs }
+
 abbrev pub inserted_of : {S : Type 0} → Result Token (InsertError S) → Inserted S
 inserted_of (Ok t) = into t
 inserted_of (Err e) = back (refused (number_of e.error) (code_of e.error)) e.inserted
@@ -31,4 +40,4 @@ Performed poller clock kind call l r l' = Between poller clock l.registry.poll l
 -- the poller and the sources share one register, which says that each file that a source holds stands in the poller under a
 -- key of its token, and that any other entry is stuck.
 abbrev pub Orderly : {P C S : Type 0} → PollerOf P → EventSourceOf S → List ℕ → LoopHandle P C S → Type 0
-Orderly poller kind h l = InOrder kind None h (loop_of l (world_of poller l.registry.poll)) × Shared (owners kind l.sources) (world_of poller l.registry.poll)
+Orderly poller kind h l = InOrder kind None h (loop_over poller l) × Shared (owners kind l.sources) (world_of poller l.registry.poll)

@@ -1,12 +1,11 @@
 // The user's calls.
 ghost use Rattle.std.specs.Prelude.{◌≡◌, IfOk};
 ghost use Rattle.list.specs.Slots.{Calm};
-ghost use Rattle.loop_handle.specs.State.{Performed, inserted_of, loop_of};
+ghost use Rattle.loop_handle.specs.State.{Performed, inserted_of, loop_over};
 ghost use Rattle.model.specs.Calls.{disable_of, enable_of, idling_of, insert_of, remove_of, update_of};
 ghost use Rattle.model.specs.Order.{Listed};
 ghost use Rattle.model.specs.State.{new_loop};
 ghost use Rattle.sys.specs.Polling.{state_of};
-ghost use Rattle.sys.specs.World.{world_of};
 ghost use Rattle.token.specs.Refusal.{outcome};
 
 use crate::handle::{InsertError, LoopHandle, Registry};
@@ -23,7 +22,7 @@ impl<P: Poller, C: Clock, S: EventSource> LoopHandle<P, C, S> {
     where
         P: Drop,
         C: Drop,
-        ensures is { IfOk result (λ l. loop_of l (world_of P.Poller l.registry.poll) ≡ new_loop (P.Poller.entries poller) (P.Poller.most poller) P.Poller.LEVEL) }
+        ensures is { IfOk result (λ l. loop_over P.Poller l ≡ new_loop (P.Poller.entries poller) (P.Poller.most poller) P.Poller.LEVEL) }
         ensures poll { IfOk result (λ l. ((state_of l.registry.poll).poller ≡ poller) × ((state_of l.registry.poll).clock ≡ clock)) }
     {
         let poll = Poll::new(heap, poller, clock)?;

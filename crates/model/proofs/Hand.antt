@@ -22,10 +22,10 @@ no_source kind t (Occupied s) n = elim (n tt) [ ]
 no_source kind t Handled n = refl
 
 module _ {S : Type 0} (kind : EventSourceOf S) (xs : List (Slot S)) (few : length xs ≤ 1024) where
-  holders_at : (hand : Option Owner) (i : ℕ) (p : Place S) → i < length xs → (slot_at xs i).place ≡ p → holders kind xs hand i ≡ owner_in kind (token_in xs i) p
+  pub holders_at : (hand : Option Owner) (i : ℕ) (p : Place S) → i < length xs → (slot_at xs i).place ≡ p → holders kind xs hand i ≡ owner_in kind (token_in xs i) p
   holders_at hand i p l is = grind (arith, common_steps)
 
-  holders_placed : (hand : Option Owner) (i : ℕ) (p : Place S) → i < length xs → (j : ℕ) → holders kind (placed xs i p) hand j ≡ changed (holders kind xs hand) i (owner_in kind (token_in xs i) p) j
+  pub holders_placed : (hand : Option Owner) (i : ℕ) (p : Place S) → i < length xs → (j : ℕ) → holders kind (placed xs i p) hand j ≡ changed (holders kind xs hand) i (owner_in kind (token_in xs i) p) j
   holders_placed hand i p l j = grind (arith, common_steps, owners_placed kind xs i p l j)
 
   holders_given : (hand : Option Owner) (t : Token) (ys : List (Slot S)) → vacant_of xs ≡ (Some t, ys) → (j : ℕ) → holders kind ys hand j ≡ holders kind xs hand j

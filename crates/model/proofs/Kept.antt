@@ -7,19 +7,23 @@ use Rattle.std.specs.Option.{option_map, option_to_list}
 use Rattle.token.specs.declared.token.Token.{Token}
 use Rattle.token.specs.Key.{own_source}
 use Rattle.token.specs.Refusal.{Outcome, done, refusal, refused}
+use Rattle.poller.specs.declared.entry.Readiness.{Readiness}
 use Rattle.poller.specs.Meaning.{Answer}
+use Rattle.post_action.specs.declared.PostAction.{PostAction}
 use Rattle.list.specs.Entries.{apart, left}
 use Rattle.list.specs.Slots.{fitting, slot_at, vacant_of}
 use Rattle.list.specs.declared.slots.Place.{Place}
 use Rattle.list.specs.declared.slots.Place.TheVariants.{Empty, Handled, Occupied}
 use Rattle.list.specs.declared.slots.Slot.{Slot}
 use Rattle.sys.specs.Laws.{In}
+use Rattle.sys.specs.declared.event.PollEvent.{PollEvent}
 use Rattle.sys.specs.World.{World, Exchange}
 use Rattle.sys.proofs.Entries.{in_append, in_filter}
 use Rattle.rules.specs.Calls.{Went}
-use Rattle.rules.specs.Kinds.{Free, LettingGo, Reaches, Registering, Reregistering, Unregistering}
+use Rattle.rules.specs.Kinds.{Free, LettingGo, Processing, Reaches, Registering, Reregistering, Unregistering, Wakes}
 use Rattle.rules.specs.Meaning.{Drawer, Drawn, Nothing}
 use Rattle.rules.proofs.Steps.{reaches_same, reaches_then}
+use Rattle.kinds.specs.declared.errand.Errand.{Errand}
 use Rattle.kinds.specs.declared.source.EventSource.{Ghosts as EventSourceOf}
 use Rattle.model.specs.Calls.{Acted, Inserted, Released, acted, admits, admits_by, after, disable_by, disable_of, emptied, enable_by, enable_of, hooked, idling_of, insert_at, insert_of, inserted, inserted_by, into, listed, released_by, releases, remove_by, remove_of, renews, standing_at, update_by, update_of, withdraws}
 use Rattle.model.specs.Course.{Takes, ends, reregisters}
@@ -33,12 +37,16 @@ use Rattle.model.proofs.Course.{taken_made}
 use Rattle.model.proofs.Order.{acted_in_order, given_in_order, inserted_in_order, its_keys, refused_in_order, removed_in_order}
 use Rattle.model.proofs.Register.{none_of, one_new_loop}
 
--- the laws of a kind that the calls use
+-- the laws of a kind that the calls and a dispatch use
 pub record Lawful {S : Type 0} (kind : EventSourceOf S) : Type 0 where
   pub registering : (s : S) (w : World) (d : Drawer) (xs : List Exchange) (r : Answer) (s' : S) (w' : World) (d' : Drawer) → kind.registers s w d xs r s' w' d' → Registering (kind.means s) w d xs r (kind.means s') w' d'
   pub reregistering : (s : S) (w : World) (d : Drawer) (xs : List Exchange) (r : Answer) (s' : S) (w' : World) (d' : Drawer) → kind.reregisters s w d xs r s' w' d' → Reregistering (kind.means s) w d xs r (kind.means s') w' d'
   pub unregistering : (s : S) (w : World) (xs : List Exchange) (r : Answer) (s' : S) (w' : World) → kind.unregisters s w xs r s' w' → Unregistering (kind.means s) w xs r (kind.means s') w'
   pub leaving : (s : S) (w : World) (xs : List Exchange) (s' : S) (w' : World) → kind.leaves s w xs s' w' → LettingGo (kind.means s) w xs (kind.means s') w'
+  pub processing : (s : S) (w : World) (x : Readiness) (t : Token) (es : List Errand) (xs : List Exchange) (r : Outcome PostAction) (s' : S) (w' : World) (es' : List Errand) → kind.processes s w x t es xs r s' w' es'
+      → Processing (kind.means s) w t es xs r (kind.means s') w' es'
+  pub sleeping : (s : S) (r : Outcome (Option (Readiness × Token))) (s' : S) → kind.sleeps s r s' → (kind.means s' ≡ kind.means s) × Wakes (kind.means s) r
+  pub seeing : (s : S) (vs : List PollEvent) (s' : S) → kind.sees s vs s' → kind.means s' ≡ kind.means s
 
 pub listed_joins : (b : Bool) (t : Token) (ts : List Token) → Joins t ts (listed b t ts).1
 listed_joins b t ts u m = grind (arith, common_steps, in_append u ts (t ∷ []))

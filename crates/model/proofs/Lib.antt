@@ -6,3 +6,11 @@ pub mod Hand
 pub mod Counts
 pub mod Order
 pub mod Kept
+pub mod Parts
+pub mod Rest
+pub mod Hooks
+pub mod Retries
+pub mod Turn
+pub mod Turns
+pub mod Dispatch
+pub mod Sheet

@@ -4,3 +4,7 @@ pub mod Calls
 pub mod Register
 pub mod Counts
 pub mod Order
+pub mod Decide
+pub mod Retries
+pub mod Dispatch
+pub mod Laws

@@ -2,21 +2,51 @@
 //
 // A sample is a text. A script in it is, for each of its lines, that line and behind it a line of two spaces and the
 // stored answer; between two scripts stands an empty line. So an empty line of a script cannot be stored.
+//
+// A line `(P (s s ..))` plans what the next calls of the poller come to, a step a call, and is answered `(ok)`: `w` works,
+// `i` is interrupted, and a number of 32 bits, spelled as doorbench spells them, is the code of a fault. `(P ())` is the
+// empty plan. Any other line is doorbench's.
 #![tactic(auto)]
 
+mod plan;
 mod report;
 
+ghost use Rattle.std.specs.Prelude.{◌≡◌, ℕ, List, ◌++◌, IfOk, string_bytes};
+ghost use Rattle.replay.specs.Does.{Does};
+
 use anyhow::{Context, bail};
-use bench::{Bench, perform};
+use bench::{Bench, Source, perform};
+use kinds::EventSource;
+use plan::{Plan, read_plan};
+use poller::{BenchPoller, Poller};
 use report::{Answered, write_report};
 use script::read_line;
-use std::alloc::Global;
+use std::alloc::{AllocError, Global};
 use std::io;
+use sys::{Clock, SetClock};
 
 // A line of the sample, and its number there, from 1.
 type Numbered<'a> = (&'a str, u64);
 
-// Performs each line of the script, and notes the answers.
+// Plans what the line plans, or else does what its form asks for, and writes the answer.
+fn answer_line(
+    heap: Global,
+    bench: &mut Bench,
+    line: &[u8],
+    out: &mut String,
+) -> Result<(), AllocError>
+    ensures { IfOk result (λ _. (text : List ℕ) × (string_bytes out.new ≡ string_bytes out.old ++ text) × Does ⟦<BenchPoller as Poller>⟧ ⟦<SetClock as Clock>⟧ ⟦<Source as EventSource>⟧ line.now bench.old text bench.new) }
+{
+    match read_plan(heap, line)? {
+        Some(steps) => {
+            bench.event_loop.arrange(&mut Plan { steps: Some(steps) });
+            out.push_str("(ok)")
+        }
+        None => perform(bench, read_line(heap, line)?, out),
+    }
+}
+
+// Answers each line of the script, and notes the answers.
 fn play(
     heap: Global,
     bench: &mut Bench,
@@ -31,7 +61,7 @@ fn play(
             .strip_prefix("  ")
             .context("a stored answer has no two spaces before it")?;
         let mut answer = String::new(heap);
-        perform(bench, read_line(heap, line.as_bytes())?, &mut answer)?;
+        answer_line(heap, bench, line.as_bytes(), &mut answer)?;
         answered.push(Answered {
             number: *number,
             answer,

@@ -7,15 +7,16 @@ use Rattle.token.specs.Refusal.{Outcome, done, refused}
 use Rattle.poller.specs.declared.entry.Readiness.{Readiness}
 use Rattle.poller.specs.Meaning.{Answer}
 use Rattle.sys.specs.Laws.{Consistent, In}
-use Rattle.sys.specs.World.{World, Exchange, added, modified, read, with_timers}
+use Rattle.sys.specs.World.{World, Exchange, added, modified, read, waited, with_timers}
 use Rattle.rules.specs.Files.{Keeps}
 use Rattle.rules.specs.Meaning.{Drawer, Drawn, Forward, Meaning, Nothing}
 use Rattle.rules.specs.Timers.{Timers}
 
--- the poller was asked to enter or modify only under keys that were drawn
+-- the poller was asked to enter or modify only under keys that were drawn, and no wait was made
 abbrev pub Enters : (ℕ → Type 0) → Exchange → Type 0
 Enters Drew (added q r) = Drew q.key
 Enters Drew (modified q r) = Drew q.key
+Enters Drew (waited t r vs) = ⊥
 Enters Drew x = Unit {0}
 
 -- what a call that reaches the polling system does there

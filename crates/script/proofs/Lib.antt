@@ -1,4 +1,4 @@
-mod Reading
-mod Lines
+pub mod Reading
+pub mod Lines
 mod Files
 mod Unique

@@ -1,12 +1,11 @@
 -- Re-arming arms: what a wait that succeeds leaves of the entries that it reported.
-use Rattle.std.proofs.Common.{◌≡◌, ℕ, true, List, [], ◌∷◌, ◌++◌, map, Some, None, Option, sym, refl, subst, inl, inr, arith}
+use Rattle.std.proofs.Common.{◌≡◌, ℕ, true, List, [], ◌∷◌, ◌++◌, map, Some, None, Option, refl, inl, inr, arith}
 use Rattle.std.proofs.lemmas.Bool.{cases_eq}
 use Rattle.std.proofs.lemmas.Grind.{common_steps}
 use Rattle.token.specs.Refusal.{done}
 use Rattle.poller.specs.declared.entry.Entry.{Entry}
 use Rattle.poller.specs.declared.entry.Event.{Event}
 use Rattle.poller.specs.declared.entry.Mode.TheVariants.{OneShot}
-use Rattle.poller.specs.declared.poller.Poller.{Ghosts as PollerOf}
 use Rattle.poller.specs.Meaning.{Answer, By, modify_of}
 use Rattle.poller.specs.declared.entry.Request.{Request}
 use Rattle.poller.specs.Register.{entry_of}
@@ -14,14 +13,14 @@ use Rattle.timer_wheel.specs.declared.timeout.TimeoutData.{TimeoutData}
 use Rattle.timer_wheel.specs.Laws.{due_by}
 use Rattle.levels.specs.declared.table.Line.{Line}
 use Rattle.levels.specs.Table.{line_of}
-use Rattle.sys.specs.declared.clock.Clock.{Ghosts as ClockOf}
 use Rattle.sys.specs.declared.event.Class.TheVariants.{Polled}
 use Rattle.sys.specs.declared.event.PollEvent.{PollEvent}
 use Rattle.sys.specs.Laws.{In, Rearmed}
-use Rattle.sys.specs.Polling.{State, Polls, Rearms, RearmsIn, Arms, request}
+use Rattle.sys.specs.Polling.{request}
+use Rattle.sys.specs.Wait.{Arms, Rearms, RearmsIn, Waits}
+use Rattle.sys.specs.World.{Exchange, World}
 use Rattle.sys.specs.Event.{polled, rung}
 use Rattle.sys.proofs.Entries.{in_append}
-use Rattle.sys.proofs.Lawful.{Modifying}
 use Rattle.sys.proofs.Outcomes.{modify_leaves}
 
 -- the file's entry, if it stands, is armed
@@ -45,33 +44,31 @@ not_rung : (v : PollEvent) (xs : List TimeoutData) → v.class ≡ Polled → In
 not_rung v [] c h = h
 not_rung v (x ∷ xs) c h = grind (arith, common_steps, not_rung v xs c)
 
-module _ {P : Type 0} (poller : PollerOf P) (law : Modifying poller) where
-  -- what was armed stays armed, and what was reported and has a line is armed
-  abbrev Kept : P → P → List Line → List Event → Type 0
-  Kept p p' ls vs = ((f : ℕ) → Armed (poller.entries p) f → Armed (poller.entries p') f) × ((w : Event) → In w vs → (l : Line) → line_of w.key ls ≡ Some l → Armed (poller.entries p') l.file)
+-- what was armed stays armed, and what was reported and has a line is armed
+abbrev Kept : List Entry → List Entry → List Line → List Event → Type 0
+Kept es es' ls vs = ((f : ℕ) → Armed es f → Armed es' f) × ((w : Event) → In w vs → (l : Line) → line_of w.key ls ≡ Some l → Armed es' l.file)
 
-  arms : (ls : List Line) (vs : List Event) (p : P) (r : Answer) (p' : P) → Rearms poller ls vs p r p' → r ≡ done tt → Kept p p' ls vs
-  arms ls [] p r p' h d = (λ f a. subst (λ (x : P). Armed (poller.entries x) f) (sym h.1) a, λ w i. absurd i)
-  arms ls (v ∷ vs) p r p' h d = at (line_of v.key ls) refl h (λ q k. arms ls vs q r p' k d)
-    where
-      at : (o : Option Line) → line_of v.key ls ≡ o → Arms poller o (Rearms poller ls vs) p r p'
-          → ((q : P) → Rearms poller ls vs q r p' → Kept q p' ls vs) → Kept p p' ls (v ∷ vs)
-      at None e h on = let k = on p h in (k.0, λ w i l is. grind (arith, common_steps, k.1 w))
-      at (Some m) e h on =
-          let g : (h.0 ≡ done tt) × Rearms poller ls vs h.1 r p' = grind (arith, common_steps) in
-          let b = modified_arms (poller.entries p) (request m OneShot) h.0 (poller.entries h.1) (law p (request m OneShot) h.0 h.1 h.2).0 g.0 in
-          let k = on h.1 g.1 in
-          (λ f x. k.0 f (b.1 f x), λ w i l is. grind (arith, common_steps, k.1 w, k.0 m.file b.0))
+arms : (ls : List Line) (vs : List Event) (es : List Entry) (xs : List Exchange) (r : Answer) (es' : List Entry) → Rearms ls vs es xs r es' → r ≡ done tt → Kept es es' ls vs
+arms ls [] es xs r es' h d = (λ f a. rw h.2 a, λ w i. absurd i)
+arms ls (v ∷ vs) es xs r es' h d = at (line_of v.key ls) refl h (λ fs ys k. arms ls vs fs ys r es' k d)
+  where
+    at : (o : Option Line) → line_of v.key ls ≡ o → Arms o (Rearms ls vs) es xs r es'
+        → ((fs : List Entry) (ys : List Exchange) → Rearms ls vs fs ys r es' → Kept fs es' ls vs) → Kept es es' ls (v ∷ vs)
+    at None e h on = let k = on es xs h in (k.0, λ w i l is. grind (arith, common_steps, k.1 w))
+    at (Some m) e h on =
+        let g : (h.0 ≡ done tt) × Rearms ls vs h.1 h.3 r es' = grind (arith, common_steps) in
+        let b = modified_arms es (request m OneShot) h.0 h.1 h.2 g.0 in
+        let k = on h.1 h.3 g.1 in
+        (λ f x. k.0 f (b.1 f x), λ w i l is. grind (arith, common_steps, k.1 w, k.0 m.file b.0))
 
-  found : (t : Option (List Line)) (told : List Event) (xs : List TimeoutData) (es : List PollEvent) (p q : P)
-      → RearmsIn poller t told p (done tt) q → es ≡ map polled told ++ map rung xs → Rearmed t es (poller.entries q)
-  found None told xs es p q h e = tt
-  found (Some ls) told xs es p q h e = λ v i c l k y is.
-      grind (arith, common_steps, in_append v (map polled told) (map rung xs), in_polled v told, not_rung v xs c, (arms ls told p (done tt) q h refl).1)
+found : (t : Option (List Line)) (told : List Event) (due : List TimeoutData) (vs : List PollEvent) (es : List Entry) (xs : List Exchange) (es' : List Entry)
+    → RearmsIn t told es xs (done tt) es' → vs ≡ map polled told ++ map rung due → Rearmed t vs es'
+found None told due vs es xs es' h e = tt
+found (Some ls) told due vs es xs es' h e = λ v i c l k y is.
+    grind (arith, common_steps, in_append v (map polled told) (map rung due), in_polled v told, not_rung v due c, (arms ls told es xs (done tt) es' h refl).1)
 
-  -- A WAIT THAT SUCCEEDS has armed again each reported key that has a line.
-  pub polls_rearmed : {C : Type 0} (clock : ClockOf C) (given : Option ℕ) (s : State P C) (r : Answer) (es : List PollEvent) (s' : State P C)
-      → Polls poller clock given s r es s' → r ≡ done tt → Rearmed s.lines es (poller.entries s'.poller)
-  polls_rearmed clock given s r es s' h d =
-      let w : (now : ℕ) × RearmsIn poller s.lines h.told h.left (done tt) s'.poller × (es ≡ map polled h.told ++ map rung (due_by now s.wheel.timers)) = grind (arith, common_steps, h.wakes) in
-      found s.lines h.told (due_by w.0 s.wheel.timers) es h.left s'.poller w.1 w.2
+-- A WAIT THAT SUCCEEDS has armed again each reported key that has a line.
+pub waits_rearmed : (given : Option ℕ) (w : World) (xs : List Exchange) (r : Answer) (vs : List PollEvent) (w' : World) → Waits given w xs r vs w' → r ≡ done tt → Rearmed w.lines vs w'.entries
+waits_rearmed given w xs r vs w' h d =
+    let k : (now : ℕ) × (ys : List Exchange) × RearmsIn w.lines h.told h.entries ys (done tt) w'.entries × (vs ≡ map polled h.told ++ map rung (due_by now w.wheel.timers)) = grind (arith, common_steps, h.wakes) in
+    found w.lines h.told (due_by k.0 w.wheel.timers) vs h.entries k.1 w'.entries k.2 k.3

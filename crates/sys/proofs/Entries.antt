@@ -39,6 +39,10 @@ pub removed_here : (f : ℕ) (es : List Entry) → entry_of f (removed f es) ≡
 removed_here f [] = refl
 removed_here f (e ∷ es) = grind (arith, common_steps, removed_here f es)
 
+-- a change that keeps the files keeps them distinct
+pub distinct_mapped : (h : Entry → Entry) → ((e : Entry) → (h e).file ≡ e.file) → (es : List Entry) → Distinct es → Distinct (map h es)
+distinct_mapped h keeps es a = λ i j d k l. grind (arith, common_steps, a i j d, keeps)
+
 -- ENTRIES BUT FOR WHETHER THEY ARE ARMED
 
 abbrev pub Alike : List Entry → List Entry → Type 0

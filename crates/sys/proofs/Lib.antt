@@ -5,3 +5,4 @@ pub mod Outcomes
 pub mod Locality
 pub mod Armed
 pub mod Plain
+pub mod PlainWait

@@ -1,5 +1,5 @@
 -- Each call touches one file, and keeps the level table consistent.
-use Rattle.std.proofs.Common.{◌≡◌, ℕ, Bool, true, false, List, [], ◌∷◌, Some, None, Option, refl, arith}
+use Rattle.std.proofs.Common.{◌≡◌, ℕ, Bool, true, false, List, [], ◌∷◌, ◌⊎◌, map, Some, None, Option, ap, inl, inr, refl, subst, sym, ◌∙◌, arith}
 use Rattle.std.specs.Option.{option_map}
 use Rattle.std.proofs.lemmas.Bool.{cases_eq}
 use Rattle.std.proofs.lemmas.Grind.{common_steps}
@@ -8,19 +8,20 @@ use Rattle.poller.specs.declared.entry.Entry.{Entry}
 use Rattle.poller.specs.declared.entry.Event.{Event}
 use Rattle.poller.specs.declared.entry.Mode.{Mode}
 use Rattle.poller.specs.declared.entry.Mode.TheVariants.{OneShot}
-use Rattle.poller.specs.declared.poller.Poller.{Ghosts as PollerOf}
 use Rattle.poller.specs.declared.entry.Request.{Request}
-use Rattle.poller.specs.Register.{Sound, renewed}
-use Rattle.poller.specs.Meaning.{Answer, Fate, add_of, modify_of}
+use Rattle.poller.specs.Register.{Distinct, disarmed, renewed}
+use Rattle.poller.specs.Meaning.{Answer, Fate, Waited, add_of, modify_of}
+use Rattle.poller.proofs.Standing.{distinct_map}
+use Rattle.timer_wheel.specs.Laws.{rest}
+use Rattle.timer_wheel.specs.Wheel.{Wheel}
 use Rattle.levels.specs.declared.table.Line.{Line}
 use Rattle.levels.specs.Table.{dropped, entered, line_of, stays}
-use Rattle.sys.specs.declared.clock.Clock.{Ghosts as ClockOf}
 use Rattle.sys.specs.declared.event.PollEvent.{PollEvent}
 use Rattle.sys.specs.Laws.{Consistent, Untouched, Touches, Wakeful}
-use Rattle.sys.specs.Polling.{State, Arms, Rearms, Polls, lines_after, mode_below_of, request}
-use Rattle.sys.specs.World.{World, Exchange, added, modified, let_go_of, register_of, reregister_of, sent, unregister_of}
-use Rattle.sys.proofs.Entries.{Alike, alike_at, changed_alike, found_in, in_append, in_filter, told_alike}
-use Rattle.sys.proofs.Lawful.{Modifying, Waiting}
+use Rattle.sys.specs.Polling.{lines_after, mode_below_of, request}
+use Rattle.sys.specs.Wait.{Arms, Rearms, RearmsIn, Takes, Waits, Wakes}
+use Rattle.sys.specs.World.{World, Exchange, added, modified, let_go_of, register_of, reregister_of, sent, unregister_of, with_entries, with_timers}
+use Rattle.sys.proofs.Entries.{Alike, alike_at, changed_alike, distinct_mapped, found_in, in_append, in_filter, told_alike}
 use Rattle.sys.proofs.Outcomes.{Deleted, Registered, add_leaves, delete_leaves, modify_leaves}
 
 -- EACH CALL TOUCHES ONE FILE
@@ -65,30 +66,66 @@ module _ (f : ℕ) (w : World) where
 
 -- A WAIT ONLY ARMS AND DISARMS
 
+-- files stay, and so stay distinct
+alike_apart : (es es' : List Entry) → Alike es es' → Distinct es → Distinct es'
+alike_apart es es' a d = distinct_map disarmed (λ e. refl) es' (rw a (distinct_mapped disarmed (λ e. refl) es d))
+
 alike_keeps : (es es' : List Entry) (t : Option (List Line)) → Alike es es' → Consistent es t → Consistent es' t
 alike_keeps es es' None a c = tt
 alike_keeps es es' (Some ls) a c = λ l m e is. grind (arith, common_steps, alike_at l.file es es' e a is, c l m)
 
-module _ {P : Type 0} (poller : PollerOf P) (sound : (p : P) → Sound (poller.most p) (poller.entries p)) (law : Modifying poller) where
-  -- the entries of two states of the poller, but for which are armed
-  abbrev Same : P → P → Type 0
-  Same p q = Alike (poller.entries p) (poller.entries q)
+rearms_alike : (ls : List Line) (vs : List Event) (es : List Entry) (xs : List Exchange) (r : Answer) (es' : List Entry) → Distinct es → Consistent es (Some ls)
+    → Rearms ls vs es xs r es' → Alike es es'
+rearms_alike ls [] es xs r es' d c h = ap (map disarmed) h.2
+rearms_alike ls (v ∷ vs) es xs r es' d c h = at (line_of v.key ls) refl h (λ fs ys. rearms_alike ls vs fs ys r es')
+  where
+    at : (o : Option Line) → line_of v.key ls ≡ o → Arms o (Rearms ls vs) es xs r es'
+        → ((fs : List Entry) (ys : List Exchange) → Distinct fs → Consistent fs (Some ls) → Rearms ls vs fs ys r es' → Alike fs es') → Alike es es'
+    at None e h more = more es xs d c h
+    at (Some l) e h more =
+        let arms = changed_alike (renewed (request l OneShot)) l.file es d (λ x is. let g = c l (found_in v.key ls l e) x is in cc (g.key, g.interest, g.mode)) in
+        let a : Alike es h.1 = grind (arith, common_steps, h.2) in
+        grind (arith, common_steps, more h.1 h.3 (alike_apart es h.1 a d) (alike_keeps _ _ (Some ls) a c))
 
-  rearms_alike : (ls : List Line) (vs : List Event) (p : P) (r : Answer) (p' : P) → Consistent (poller.entries p) (Some ls) → Rearms poller ls vs p r p' → Same p p'
-  rearms_alike ls [] p r p' c h = grind (arith, common_steps)
-  rearms_alike ls (v ∷ vs) p r p' c h = at (line_of v.key ls) refl h (λ q. rearms_alike ls vs q r p')
-    where
-      at : (o : Option Line) → line_of v.key ls ≡ o → Arms poller o (Rearms poller ls vs) p r p'
-          → ((q : P) → Consistent (poller.entries q) (Some ls) → Rearms poller ls vs q r p' → Same q p') → Same p p'
-      at None e h more = more p c h
-      at (Some l) e h more =
-          let w = (law p (request l OneShot) h.0 h.1 h.2).0 in
-          let arms = changed_alike (renewed (request l OneShot)) l.file (poller.entries p) (sound p).apart (λ x is. let g = c l (found_in v.key ls l e) x is in cc (g.key, g.interest, g.mode)) in
-          let a : Same p h.1 = grind (arith, common_steps, w.1) in
-          grind (arith, common_steps, more h.1 (alike_keeps _ _ (Some ls) a c))
+rearms_in_alike : (t : Option (List Line)) (vs : List Event) (es : List Entry) (xs : List Exchange) (r : Answer) (es' : List Entry) → Distinct es → Consistent es t
+    → RearmsIn t vs es xs r es' → Alike es es'
+rearms_in_alike None vs es xs r es' d c h = ap (map disarmed) h.2
+rearms_in_alike (Some ls) vs es xs r es' d c h = rearms_alike ls vs es xs r es' d c h
 
-  pub polls_wakeful : {C : Type 0} (clock : ClockOf C) → Waiting poller → (given : Option ℕ) (s : State P C) (r : Answer) (es : List PollEvent) (s' : State P C) → Polls poller clock given s r es s'
-      → Wakeful (poller.entries s.poller) s.lines (poller.entries s'.poller) s'.lines
-  polls_wakeful clock waits given s r es s' h =
-      let w = (waits s.poller h.timeout h.answer h.told h.left h.waited).0 in
-      grind (arith, common_steps, h.wakes, told_alike, rearms_alike, alike_keeps)
+-- all timers, or those that are due later than a reading
+abbrev pub Later : Wheel → Wheel → Type 0
+Later t t' = (t' ≡ t) ⊎ ((now : ℕ) × (t' ≡ rest now t))
+
+-- WHAT A WAIT LEAVES OF THE WORLD, with a table that agrees: the entries but for which are armed, the lines, the most, and timers
+pub record Wakens (w w' : World) : Type 0 where
+  pub same : Consistent w.entries w.lines → Alike w.entries w'.entries
+  pub lines : w'.lines ≡ w.lines
+  pub most : w'.most ≡ w.most
+  pub wheel : Later w.wheel w'.wheel
+
+takes_leaves : (a : Answer) (vs : List Event) (w : World) (xs : List Exchange) (r : Answer) (es : List PollEvent) (w' : World) → Takes a vs w xs r es w'
+    → (t : Wheel) × Later w.wheel t × (w' ≡ with_timers w t)
+takes_leaves (refused n c) vs w xs r es w' h = (w.wheel, inl refl, h.3)
+takes_leaves (done u) vs w xs r es w' h = (rest h.0 w.wheel, inr (h.0, refl), h.4)
+
+wakes_leaves : (a : Answer) (vs : List Event) (w : World) (xs : List Exchange) (r : Answer) (es : List PollEvent) (w' : World) → Distinct w.entries → Wakes a vs w xs r es w' → Wakens w w'
+wakes_leaves (refused n c) vs w xs r es w' d h = subst (Wakens w) (sym h.3) (record { same = λ c. refl; lines = refl; most = refl; wheel = inl refl })
+wakes_leaves (done u) vs w xs r es w' d h =
+    let t = takes_leaves h.0 vs (with_entries w h.1) h.4 r es w' h.6 in
+    subst (Wakens w) (sym t.2) (record { same = λ c. rearms_in_alike w.lines vs w.entries h.2 h.0 h.1 d c h.3; lines = refl; most = refl; wheel = t.1 })
+
+waited_alike : (es : List Entry) (r : Answer) (vs : List Event) (es' : List Entry) → Waited es r vs es' → Alike es es'
+waited_alike es (refused n c) vs es' h = ap (map disarmed) h.1
+waited_alike es (done u) vs es' h = rw h.after (told_alike h.files es)
+
+module _ (given : Option ℕ) (w : World) (xs : List Exchange) (r : Answer) (es : List PollEvent) (w' : World) (apart : Distinct w.entries) where
+  pub waits_wakens : Waits given w xs r es w' → Wakens w w'
+  waits_wakens h =
+      let a = waited_alike w.entries h.answer h.told h.entries h.meant in
+      let k = wakes_leaves h.answer h.told (with_entries w h.entries) h.rest r es w' (alike_apart w.entries h.entries a apart) h.wakes in
+      record { same = λ c. k.same (alike_keeps w.entries h.entries w.lines a c) ∙ a; lines = k.lines; most = k.most; wheel = k.wheel }
+
+  pub waits_wakeful : Waits given w xs r es w' → Wakeful w.entries w.lines w'.entries w'.lines
+  waits_wakeful h =
+      let k = waits_wakens h in
+      record { same = k.same; consistent = λ c. rw k.lines (alike_keeps w.entries w'.entries w.lines (k.same c) c); lines = k.lines }

@@ -11,7 +11,7 @@ use Rattle.sys.specs.declared.clock.Clock.{Ghosts as ClockOf}
 use Rattle.sys.specs.declared.poll.Poll.{Poll}
 use Rattle.sys.specs.Laws.{Touches, TouchesFile}
 use Rattle.sys.specs.Polling.{Registers, Sent, Unregisters, LetsGo, mode_below_of, request, state_of, with_lines, with_poller}
-use Rattle.sys.specs.World.{World, CameTo, Come, Exchange, Exchanged, Asked, Comes, added, deleted, forgotten, given_up, modified, noted, read, let_go_of, register_of, reregister_of, sent, unregister_of, with_table, world_of}
+use Rattle.sys.specs.World.{World, CameTo, Come, Exchange, Exchanged, Asked, Comes, added, deleted, forgotten, given_up, modified, noted, read, let_go_of, register_of, reregister_of, sent, unregister_of, waited, with_table, world_of}
 use Rattle.sys.proofs.Lawful.{Adding, Came, Deleting, Modifying}
 
 module _ {P C : Type 0} (poller : PollerOf P) (clock : ClockOf C) where
@@ -73,13 +73,14 @@ module _ {P C : Type 0} (poller : PollerOf P) (clock : ClockOf C) where
 -- WHAT WAS ASKED
 
 module _ {P C : Type 0} (poller : PollerOf P) (clock : ClockOf C) where
-  asked_then : (xs ys : List Exchange) (p q r : P) (c d e : C) → Asked poller clock xs p c q d → Asked poller clock ys q d r e
+  pub asked_then : (xs ys : List Exchange) (p q r : P) (c d e : C) → Asked poller clock xs p c q d → Asked poller clock ys q d r e
       → Asked poller clock (xs ++ ys) p c r e
   asked_then [] ys p q r c d e h k = subst (λ (x : P). Asked poller clock ys x c r e) h.0 (subst (λ (x : C). Asked poller clock ys q x r e) h.1 k)
   asked_then (added x a ∷ xs) ys p q r c d e h k = (h.0, h.1, asked_then xs ys h.0 q r c d e h.2 k)
   asked_then (modified x a ∷ xs) ys p q r c d e h k = (h.0, h.1, asked_then xs ys h.0 q r c d e h.2 k)
   asked_then (deleted f a ∷ xs) ys p q r c d e h k = (h.0, h.1, asked_then xs ys h.0 q r c d e h.2 k)
   asked_then (read n ∷ xs) ys p q r c d e h k = (h.0, h.1, asked_then xs ys p q r h.0 d e h.2 k)
+  asked_then (waited t a vs ∷ xs) ys p q r c d e h k = (h.0, h.1, asked_then xs ys h.0 q r c d e h.2 k)
 
   pub exchanged_then : {xs ys : List Exchange} {s t u : Poll P C} → Exchanged poller clock xs s t → Exchanged poller clock ys t u
       → Exchanged poller clock (xs ++ ys) s u

@@ -4,3 +4,4 @@ pub mod Polling
 pub mod Setting
 pub mod World
 pub mod Laws
+pub mod Wait

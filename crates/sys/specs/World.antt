@@ -4,6 +4,7 @@ use Rattle.std.specs.Prelude.{◌≡◌, ℕ, List, [], ◌∷◌, None, Option}
 use Rattle.std.specs.Option.{option_map}
 use Rattle.token.specs.Refusal.{Outcome, done, refused}
 use Rattle.poller.specs.declared.entry.Entry.{Entry}
+use Rattle.poller.specs.declared.entry.Event.{Event}
 use Rattle.poller.specs.declared.entry.Mode.{Mode}
 use Rattle.poller.specs.declared.poller.Poller.{Ghosts as PollerOf}
 use Rattle.poller.specs.Meaning.{Answer, Fate, add_of, modify_of, delete_of}
@@ -26,7 +27,10 @@ pub record World : Type 0 where
 abbrev pub world_of : {P C : Type 0} → PollerOf P → Poll P C → World
 world_of poller s = record { entries = poller.entries s.poller; most = poller.most s.poller; lines = s.level_triggered; wheel = wheel_of s.timers }
 
--- the same world with other entries and lines, or with another wheel, by name, as clauses and laws say it
+-- the same world with other entries, with other entries and lines, or with another wheel, by name, as clauses and laws say it
+abbrev pub with_entries : World → List Entry → World
+with_entries w es = record w { entries = es }
+
 abbrev pub with_table : World → List Entry → Option (List Line) → World
 with_table w es ls = record w { entries = es; lines = ls }
 
@@ -41,6 +45,7 @@ pub data Exchange : Type 0 where
   modified : Request → Answer → Exchange
   deleted : ℕ → Answer → Exchange
   read : ℕ → Exchange
+  waited : Option ℕ → Answer → List Event → Exchange
 
 module _ {P C : Type 0} (poller : PollerOf P) (clock : ClockOf C) where
   abbrev pub Asked : List Exchange → P → C → P → C → Type 0
@@ -49,6 +54,7 @@ module _ {P C : Type 0} (poller : PollerOf P) (clock : ClockOf C) where
   Asked (modified q r ∷ xs) p c p' c' = (m : P) × poller.modifies p q r m × Asked xs m c p' c'
   Asked (deleted f r ∷ xs) p c p' c' = (m : P) × poller.deletes p f r m × Asked xs m c p' c'
   Asked (read n ∷ xs) p c p' c' = (m : C) × clock.reads c n m × Asked xs p m p' c'
+  Asked (waited t r vs ∷ xs) p c p' c' = (m : P) × poller.waits p t r vs m × Asked xs m c p' c'
 
   -- these questions were put in this order and answered so, each by the word of poller or clock
   pub record Exchanged (xs : List Exchange) (s s' : Poll P C) : Type 0 where

@@ -1,13 +1,13 @@
 // Registration: what a source asks of the poller and the timers.
-ghost use Rattle.std.specs.Prelude.{◌≡◌, IfOk, None};
+ghost use Rattle.std.specs.Prelude.{◌≡◌, [], ◌∷◌, IfOk, None};
 ghost use Rattle.token.specs.Refusal.{Done, done, outcome};
 ghost use Rattle.timer_wheel.specs.Wheel.{cancel_of, empty, insert_of, reuse_of};
 ghost use Rattle.levels.specs.Table.{dropped, entered};
 ghost use Rattle.levels.specs.declared.table.Line.{Line};
 ghost use Rattle.std.specs.Option.{option_map};
 ghost use Rattle.sys.specs.Laws.{TouchesFile};
-ghost use Rattle.sys.specs.Polling.{AsksBy, LetsGo, Registers, Unregisters, line_for, mode_below_of, new_table, request, state_of, with_clock, with_lines, with_poller, with_wheel};
-ghost use Rattle.sys.specs.World.{CameTo, let_go_of, register_of, reregister_of, unregister_of};
+ghost use Rattle.sys.specs.Polling.{AsksBy, LetsGo, Registers, Unregisters, line_for, mode_below_of, new_table, request, state_of, with_clock, with_lines, with_wheel};
+ghost use Rattle.sys.specs.World.{Between, CameTo, let_go_of, read, register_of, reregister_of, unregister_of, world_of};
 
 use crate::clock::{Clock, Environment};
 use crate::poll::Poll;
@@ -65,16 +65,16 @@ impl<P: Poller, C: Clock> Poll<P, C> {
     }
 
     pub fn now(&mut self) -> u64
-        ensures { C.Clock.reads self.old.clock result self.new.clock × (state_of self.new ≡ with_clock (state_of self.old) self.new.clock) }
+        ensures is { C.Clock.reads self.old.clock result self.new.clock × (state_of self.new ≡ with_clock (state_of self.old) self.new.clock) }
+        ensures plain { Between P.Poller C.Clock self.old self.new (λ w xs w'. (xs ≡ read result ∷ []) × (w' ≡ w)) }
     {
         self.clock.now()
     }
 
     // Lets the world change what the poller and the clock will say.
     pub fn arrange<E: Environment<P, C>>(&mut self, environment: &mut E)
-        ensures entries { P.Poller.entries self.new.poller ≡ P.Poller.entries self.old.poller }
-        ensures most { P.Poller.most self.new.poller ≡ P.Poller.most self.old.poller }
-        ensures same { state_of self.new ≡ with_clock (with_poller (state_of self.old) self.new.poller) self.new.clock }
+        ensures is { E.Environment.arranges environment.old (state_of self.old).poller (state_of self.old).clock environment.new (state_of self.new).poller (state_of self.new).clock }
+        ensures same { world_of P.Poller self.new ≡ world_of P.Poller self.old }
     {
         environment.arrange(&mut self.poller, &mut self.clock);
     }

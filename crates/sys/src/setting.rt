@@ -29,10 +29,9 @@ pub struct Setting {
 }
 
 impl Environment<BenchPoller, SetClock> for Setting {
-    fn arrange(&mut self, poller: &mut BenchPoller, clock: &mut SetClock)
-        ensures time { clock.new.time ≡ self.old.time }
-        ensures bench { bench_of poller.new ≡ set_by self.old (bench_of poller.old) }
-    {
+    ghost arranges = { λ s p c s' p' c'. (bench_of p' ≡ set_by s (bench_of p)) × (c'.time ≡ s.time) };
+
+    fn arrange(&mut self, poller: &mut BenchPoller, clock: &mut SetClock) {
         clock.time = self.time;
         if let Some(files) = self.ready.take() {
             poller.make_ready(files);

@@ -1,5 +1,5 @@
 // The wait: the poller's events, re-armed where level mode is emulated, and the timers that are due.
-ghost use Rattle.std.specs.Prelude.{◌≡◌, ℕ, ◌≤◌, [], ◌++◌, map, vec_len};
+ghost use Rattle.std.specs.Prelude.{◌≡◌, ℕ, ◌-◌, ◌≤◌, [], ◌++◌, map, vec_len};
 ghost use Rattle.token.specs.Refusal.{done, outcome};
 ghost use Rattle.timer_wheel.specs.Laws.{due_by, rest};
 ghost use Rattle.timer_wheel.specs.Wheel.{first_deadline};
@@ -7,6 +7,8 @@ ghost use Rattle.sys.specs.Event.{polled, rung};
 ghost use Rattle.sys.specs.Laws.{Rearmed, Wakeful};
 ghost use Rattle.sys.specs.Polling.{Polls, Rearms, RearmsIn, state_of, with_clock, with_poller, with_wheel};
 ghost use Rattle.sys.specs.Timeout.{TimedBy};
+ghost use Rattle.sys.specs.Wait.{Waits};
+ghost use Rattle.sys.specs.World.{Between};
 
 use crate::clock::Clock;
 use crate::event::{Class, PollEvent, PollEvents};
@@ -33,6 +35,7 @@ impl<P: Poller, C: Clock> Poll<P, C> {
     // Where the re-arming of one fails the wait does, and `events` has those that are lost.
     pub fn poll(&mut self, timeout: Option<u64>, events: &mut PollEvents) -> Result<(), Error>
         ensures is { Polls P.Poller C.Clock timeout (state_of self.old) (outcome result) events.new.items.items (state_of self.new) }
+        ensures plain { Between P.Poller C.Clock self.old self.new (λ w xs w'. Waits timeout w xs (outcome result) events.new.items.items w') }
         ensures wakeful { Wakeful (P.Poller.entries self.old.poller) (state_of self.old).lines (P.Poller.entries self.new.poller) (state_of self.new).lines }
         ensures rearmed { outcome result ≡ done tt → Rearmed (state_of self.old).lines events.new.items.items (P.Poller.entries self.new.poller) }
     {
@@ -56,11 +59,19 @@ impl<P: Poller, C: Clock> Poll<P, C> {
         ensures timed { TimedBy C.Clock given (first_deadline (state_of self.old).wheel) self.old.clock self.new.clock result }
         ensures same { state_of self.new ≡ with_clock (state_of self.old) self.new.clock }
     {
-        let Some(deadline) = self.timers.next_deadline() else {
-            return given;
-        };
-        let left = deadline.saturating_sub(self.clock.now());
-        Some(given.map_or(left, |timeout| timeout.min(left)))
+        match (given, self.timers.next_deadline()) {
+            (Some(timeout), Some(deadline)) => Some(timeout.min(self.time_until(deadline))),
+            (None, Some(deadline)) => Some(self.time_until(deadline)),
+            (given, None) => given,
+        }
+    }
+
+    // By a reading of the clock; 0 where the deadline has passed.
+    fn time_until(&mut self, deadline: u64) -> u64
+        ensures reads { (now : ℕ) × C.Clock.reads self.old.clock now self.new.clock × (result ≡ deadline - now) }
+        ensures same { state_of self.new ≡ with_clock (state_of self.old) self.new.clock }
+    {
+        deadline.saturating_sub(self.clock.now())
     }
 
     // What the poller reported, as events of the loop.

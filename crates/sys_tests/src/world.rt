@@ -1,4 +1,7 @@
 // What the tests do to a poller and its clock, and their tokens.
+ghost use Rattle.std.specs.Prelude.{◌≡◌};
+ghost use Rattle.poller.specs.Line.{LinesSet, line_of};
+
 use poller::{LinePoller, Poller};
 use std::alloc::Global;
 use std::test::Fail;
@@ -12,6 +15,8 @@ pub struct Lines {
 }
 
 impl Environment<LinePoller, SetClock> for Lines {
+    ghost arranges = { λ l p c l' p' c'. LinesSet (line_of p) l.lines (line_of p') × (c' ≡ c) };
+
     fn arrange(&mut self, poller: &mut LinePoller, _clock: &mut SetClock) {
         poller.set_lines(self.lines);
     }

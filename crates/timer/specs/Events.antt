@@ -1,5 +1,5 @@
--- What an event of a Timer comes to.
-use Rattle.std.specs.Prelude.{◌≡◌, ℕ, ◌⊎◌, List, []}
+-- A Timer as it is made, and what an event of it comes to.
+use Rattle.std.specs.Prelude.{◌≡◌, ℕ, ◌⊎◌, List, [], Some, None}
 use Rattle.token.specs.declared.token.Token.{Token}
 use Rattle.token.specs.Refusal.{Outcome, done}
 use Rattle.post_action.specs.declared.PostAction.{PostAction}
@@ -11,6 +11,10 @@ use Rattle.alarm.specs.declared.alarm.Registration.{Registration}
 use Rattle.alarm.specs.declared.alarm.TimeoutAction.{TimeoutAction}
 use Rattle.alarm.specs.Calls.{Awaits, rung_by}
 use Rattle.timer.specs.declared.timer.Timer.{Timer}
+
+-- made for a deadline, it has no registration
+abbrev pub timer_until : {H : Type 0} → ℕ → H → Timer H
+timer_until d h = record { alarm = record { registration = None; deadline = Some d }; handler = h }
 
 module _ {H : Type 0} (rings : H → ℕ → List Errand → TimeoutAction → H → List Errand → Type 0) (s : Timer H) (t : Token) (es : List Errand) (w : World) where
   -- an event under the token of its registration, with a deadline: the handler is told the deadline, and says what becomes of it

@@ -1,8 +1,8 @@
 // A source that rings at a deadline.
 ghost use Rattle.alarm.specs.Calls.{cancel_by, meaning, register_by, reregister_by};
 ghost use Rattle.rules.specs.Calls.{came, went};
-ghost use Rattle.std.specs.Prelude.{◌≡◌, Some, None};
-ghost use Rattle.timer.specs.Events.{Rung};
+ghost use Rattle.std.specs.Prelude.{◌≡◌, None};
+ghost use Rattle.timer.specs.Events.{Rung, timer_until};
 ghost use Rattle.token.specs.Refusal.{done};
 ghost use Rattle.alarm.proofs.Laws.{registers_lawful, reregisters_lawful, unregisters_lawful, leaves_lawful};
 ghost use Rattle.timer.specs.Laws.{processes_lawful};
@@ -25,7 +25,7 @@ pub struct Timer<H> {
 impl<H: TimerHandler> Timer<H> {
     // A new one has no registration.
     pub fn from_deadline(deadline: u64, handler: H) -> Timer<H>
-        ensures { result ≡ record { alarm = record { registration = None; deadline = Some deadline }; handler = handler } }
+        ensures { result ≡ timer_until deadline handler }
     {
         Timer {
             alarm: Alarm::from_deadline(deadline),

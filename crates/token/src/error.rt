@@ -2,7 +2,7 @@
 ghost use Rattle.std.specs.Prelude.{◌≡◌};
 ghost use Rattle.token.specs.Refusal.{number_of, code_of};
 
-// No `Display`: doorbench alone prints a refusal, as its number, and the contracts need `number` anyway.
+// No `Display`: a refusal is printed in one place alone, as its number, and the contracts need `number` anyway.
 #[derive(Clone, Copy, PartialEq, Eq, Debug)]
 pub enum Error {
     InvalidToken,
@@ -29,7 +29,7 @@ pub enum Error {
 }
 
 impl Error {
-    // The number by which doorbench and the contracts tell a refusal.
+    // The number by which scripts and contracts tell a refusal.
     pub fn number(self) -> u8
         ensures { result ≡ number_of self }
     {

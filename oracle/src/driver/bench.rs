@@ -1,6 +1,6 @@
 //! Runs calls on a real event loop and tells what came of them.
 
-use std::io::ErrorKind;
+use std::io::{self, ErrorKind};
 use std::os::fd::RawFd;
 use std::time::Duration;
 
@@ -11,7 +11,7 @@ use calloop::{
     Error, EventLoop, EventSource, InsertError, Interest, LoopHandle, Mode, PostAction,
     RegistrationToken,
 };
-use witness::{Entry, Note};
+use witness::{Entry, Fault, Note};
 
 use crate::clock;
 use crate::script::Call;
@@ -53,6 +53,10 @@ impl Bench {
             Some(Call::Disable(n)) => self.told(n, |handle, token| handle.disable(token)),
             Some(Call::Remove(n)) => self.remove(n),
             Some(Call::Wait { clock, ready }) => self.wait(clock, &ready),
+            Some(Call::Plan(steps)) => {
+                witness::set_plan(steps);
+                "(ok)".into()
+            }
             None => refusal(BAD_FORM),
         }
     }
@@ -245,6 +249,7 @@ fn number_of(error: &Error) -> u32 {
             ErrorKind::AlreadyExists => 11,
             ErrorKind::NotFound => 12,
             ErrorKind::StorageFull => 13,
+            _ if is_planned(fault) => 14,
             _ => panic!("a fault without a number: {fault:?}"),
         },
         // No source of a script fails by itself; those of the tests do.
@@ -252,11 +257,16 @@ fn number_of(error: &Error) -> u32 {
     }
 }
 
+/// Whether a plan made the poller fail.
+fn is_planned(fault: &io::Error) -> bool {
+    fault.get_ref().is_some_and(|cause| cause.is::<Fault>())
+}
+
 #[cfg(test)]
 mod tests {
     use super::*;
 
-    /// No script reaches a lost event, so a source that fails is put in by hand.
+    /// No source of a script fails, so one that does is put in by hand.
     #[test]
     fn a_fault_loses_the_later_events() {
         let mut bench = Bench::new();

@@ -1,7 +1,10 @@
 //! The forms of a script line. Single spaces, decimal numbers without leading
 //! zeros, nothing before or after.
 
+use std::str::FromStr;
+
 use calloop::PostAction;
+use witness::Step;
 
 pub enum Call {
     Timer { deadline: u64, period: u64 },
@@ -11,6 +14,8 @@ pub enum Call {
     Disable(u64),
     Remove(u64),
     Wait { clock: u64, ready: Vec<u32> },
+    /// What the poller's next calls come to.
+    Plan(Vec<Step>),
 }
 
 /// The call that a line names, if it has a form.
@@ -26,6 +31,7 @@ pub fn parse(line: &[u8]) -> Option<Call> {
         "D" => Some(Call::Disable(number(rest)?)),
         "R" => Some(Call::Remove(number(rest)?)),
         "W" => wait(rest),
+        "P" => Some(Call::Plan(list(rest, step)?)),
         _ => None,
     }
 }
@@ -47,26 +53,36 @@ fn generic(rest: &str) -> Option<Call> {
         "X" => PostAction::Remove,
         _ => return None,
     };
-    let file = self::file(file)?;
+    let file = number(file)?;
     Some(Call::Generic { file, answer })
 }
 
 fn wait(rest: &str) -> Option<Call> {
-    let (clock, list) = rest.split_once(' ')?;
-    let clock = number(clock)?;
-    let list = list.strip_prefix('(')?.strip_suffix(')')?;
-    let ready = match list {
-        "" => Vec::new(),
-        _ => list.split(' ').map(file).collect::<Option<_>>()?,
-    };
-    Some(Call::Wait { clock, ready })
+    let (clock, files) = rest.split_once(' ')?;
+    Some(Call::Wait {
+        clock: number(clock)?,
+        ready: list(files, number)?,
+    })
 }
 
-fn file(text: &str) -> Option<u32> {
-    number(text)?.try_into().ok()
+fn step(text: &str) -> Option<Step> {
+    match text {
+        "w" => Some(Step::Work),
+        "i" => Some(Step::Interrupt),
+        code => Some(Step::Fail(number(code)?)),
+    }
 }
 
-fn number(text: &str) -> Option<u64> {
+/// The items between two parentheses.
+fn list<T>(text: &str, item: fn(&str) -> Option<T>) -> Option<Vec<T>> {
+    match text.strip_prefix('(')?.strip_suffix(')')? {
+        "" => Some(Vec::new()),
+        items => items.split(' ').map(item).collect(),
+    }
+}
+
+/// A number that fits its type.
+fn number<N: FromStr>(text: &str) -> Option<N> {
     let leading_zero = text.len() > 1 && text.starts_with('0');
     if leading_zero || !text.bytes().all(|c| c.is_ascii_digit()) {
         return None;
