@@ -1,1 +1,2 @@
 pub mod State
+pub mod End

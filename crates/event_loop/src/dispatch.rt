@@ -1,24 +1,26 @@
 // The making and the end of a loop, and a dispatch: hooks, a wait, and a turn for each event.
-ghost use Rattle.std.specs.Prelude.{◌≡◌, ℕ, ◌⊎◌, List, [], IfOk};
+ghost use Rattle.std.specs.Prelude.{◌≡◌, ℕ, ◌⊎◌, List, [], IfOk, reverse};
 ghost use Rattle.std.specs.Option.{option_map};
+ghost use Rattle.event_loop.specs.End.{vacates, vacates_all};
 ghost use Rattle.event_loop.specs.State.{Aside, Dispatching, Idle, handle_of, polling_of};
 ghost use Rattle.loop_handle.specs.State.{Orderly, loop_over};
 ghost use Rattle.model.specs.Course.{Takes};
 ghost use Rattle.model.specs.Dispatch.{dispatch_of, hands_out, timeout_by, woken};
 ghost use Rattle.model.specs.Laws.{NoneLost, Stopped, Woke};
 ghost use Rattle.model.specs.State.{new_loop};
+ghost use Rattle.sys.specs.World.{Between};
 ghost use Rattle.token.specs.Refusal.{done, outcome};
 
 use crate::state::EventLoop;
 use crate::wait::wait;
 use bounded::Bounded;
 use kinds::{Errands, EventSource};
-use list::{Place, Slot};
+use list::{Place, Slot, SourceList};
 use loop_handle::LoopHandle;
 use poller::Poller;
 use sheet::Sheet;
 use std::alloc::{AllocError, Global};
-use sys::{Clock, Environment, PollEvent, PollEvents};
+use sys::{Clock, Environment, Poll, PollEvent, PollEvents};
 use token::Error;
 use turns::{LoopInner, lose};
 
@@ -65,22 +67,7 @@ impl<P: Poller, C: Clock, S: EventSource> EventLoop<P, C, S> {
             idles: _,
             pending_action: _,
         } = handle;
-        while let Some(
-            Slot {
-                version: _,
-                enabled: _,
-                place,
-            },
-        ) = sources.take_last()
-        {
-            match place {
-                Place::Occupied(mut source) => {
-                    source.let_go(&mut registry.poll);
-                    source.end();
-                }
-                Place::Empty | Place::Handled => {}
-            }
-        }
+        let_all_go(&mut registry.poll, &mut sources);
         sources.end();
     }
 
@@ -168,5 +155,36 @@ fn timeout_with(waiting: &Bounded<PollEvent, 128>, timeout: Option<u64>) -> Opti
         timeout
     } else {
         Some(0)
+    }
+}
+
+// Lets every source go, from the last slot down.
+fn let_all_go<P: Poller, C: Clock, S: EventSource>(
+    poll: &mut Poll<P, C>,
+    sources: &mut SourceList<S>,
+)
+    ensures is { Between P.Poller C.Clock poll.old poll.new (λ w xs w'. Takes S.EventSource (vacates_all (reverse sources.old) w) xs w') }
+    ensures none { sources.new ≡ [] }
+{
+    while let Some(slot) = sources.take_last() {
+        vacate(poll, slot);
+    }
+}
+
+// Lets go of the source that stands in the slot, if there is one.
+fn vacate<P: Poller, C: Clock, S: EventSource>(poll: &mut Poll<P, C>, slot: Slot<S>)
+    ensures { Between P.Poller C.Clock poll.old poll.new (λ w xs w'. Takes S.EventSource (vacates slot.place w) xs w') }
+{
+    let Slot {
+        version: _,
+        enabled: _,
+        place,
+    } = slot;
+    match place {
+        Place::Occupied(mut source) => {
+            source.let_go(poll);
+            source.end();
+        }
+        Place::Empty | Place::Handled => {}
     }
 }
