@@ -1,5 +1,5 @@
 // The sources that a script speaks of, and the loop over them.
-ghost use Rattle.std.specs.Prelude.{◌≡◌, false, [], IfOk};
+ghost use Rattle.std.specs.Prelude.{◌≡◌, false, [], IfOk, reverse};
 ghost use Rattle.bench.specs.Handlers.{nth_token, repeated};
 ghost use Rattle.token.specs.Refusal.{done};
 ghost use Rattle.std.proofs.Common.{rules};
@@ -10,7 +10,7 @@ use kinds::{Either, Errands, EventSource};
 use poller::{BenchPoller, Poller, Readiness};
 use post_action::PostAction;
 use std::alloc::{AllocError, Global};
-use sys::{Clock, SetClock, Setting};
+use sys::{Clock, Poll, SetClock, Setting};
 use timer::{TimeoutAction, Timer, TimerHandler};
 use token::{Error, Token};
 
@@ -63,11 +63,14 @@ pub struct Bench {
 
 impl Bench {
     ghost use Rattle.bench.specs.Calls.{Dispatches, Inserts, Removes, Told, accepted};
+    ghost use Rattle.event_loop.specs.End.{vacates_all};
     ghost use Rattle.event_loop.specs.State.{Idle, handle_of, polling_of};
     ghost use Rattle.loop_handle.specs.State.{loop_over};
     ghost use Rattle.model.specs.Calls.{disable_of, enable_of, update_of};
+    ghost use Rattle.model.specs.Course.{Takes};
     ghost use Rattle.model.specs.State.{new_loop};
     ghost use Rattle.poller.specs.Bench.{bench_of};
+    ghost use Rattle.sys.specs.World.{Between};
 
     pub fn new(heap: Global) -> Result<Bench, AllocError>
         ensures is { IfOk result (λ b. loop_over ⟦<BenchPoller as Poller>⟧ (handle_of b.event_loop) ≡ new_loop [] 256 false) }
@@ -84,12 +87,14 @@ impl Bench {
         })
     }
 
-    pub fn end(self) {
+    pub fn end(self) -> Poll<BenchPoller, SetClock>
+        ensures { Between ⟦<BenchPoller as Poller>⟧ ⟦<SetClock as Clock>⟧ (handle_of self.event_loop).registry.poll result (λ w xs w'. Takes ⟦<Source as EventSource>⟧ (vacates_all (reverse (handle_of self.event_loop).sources) w) xs w') }
+    {
         let Bench {
             event_loop,
             inserted: _,
         } = self;
-        event_loop.end();
+        event_loop.end()
     }
 
     // The token of the n-th accepted insert, from 0. A line that names another is of no form.

@@ -16,7 +16,7 @@ use crate::wait::wait;
 use bounded::Bounded;
 use kinds::{Errands, EventSource};
 use list::{Place, Slot, SourceList};
-use loop_handle::LoopHandle;
+use loop_handle::{LoopHandle, Registry};
 use poller::Poller;
 use sheet::Sheet;
 use std::alloc::{AllocError, Global};
@@ -48,11 +48,9 @@ impl<P: Poller, C: Clock, S: EventSource> EventLoop<P, C, S> {
         })
     }
 
-    // Lets every source go, and ends the loop.
-    pub fn end(self)
-    where
-        P: Drop,
-        C: Drop,
+    // Lets every source go, and hands the polling system back.
+    pub fn end(self) -> Poll<P, C>
+        ensures { Between P.Poller C.Clock (handle_of self).registry.poll result (λ w xs w'. Takes S.EventSource (vacates_all (reverse (handle_of self).sources) w) xs w') }
     {
         let EventLoop {
             inner,
@@ -62,13 +60,18 @@ impl<P: Poller, C: Clock, S: EventSource> EventLoop<P, C, S> {
         } = self;
         let LoopInner { handle, errands: _ } = inner;
         let LoopHandle {
-            mut registry,
+            registry,
             mut sources,
             idles: _,
             pending_action: _,
         } = handle;
-        let_all_go(&mut registry.poll, &mut sources);
+        let Registry {
+            mut poll,
+            lifecycle: _,
+        } = registry;
+        let_all_go(&mut poll, &mut sources);
         sources.end();
+        poll
     }
 
     // Lets the world change what the poller and the clock will say.
