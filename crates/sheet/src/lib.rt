@@ -18,15 +18,23 @@ pub enum Verdict {
     Lost,
 }
 
+impl Verdict {
+    pub fn letter(self) -> &'static str
+        ensures { result.now ≡ verdict_letter self }
+    {
+        match self {
+            Verdict::Delivered => "d",
+            Verdict::Stale => "s",
+            Verdict::Lost => "l",
+        }
+    }
+}
+
 impl fmt::Display for Verdict {
     ghost output = { λ v. Some (verdict_letter v) };
 
     fn fmt<W: fmt::Write>(&self, f: &mut fmt::Formatter<W>) -> fmt::Result {
-        f.write_str(match self {
-            Verdict::Delivered => "d",
-            Verdict::Stale => "s",
-            Verdict::Lost => "l",
-        })
+        f.write_str(self.letter())
     }
 }
 

@@ -73,6 +73,11 @@ changed_alike h f es d arms =
 
 -- LISTS
 
+-- a filter after a wider one
+pub kept_within : {X : Type 0} (p q : X → Bool) → ((x : X) → p x ≡ true → q x ≡ true) → (xs : List X) → filter p (filter q xs) ≡ filter p xs
+kept_within p q h [] = refl
+kept_within p q h (x ∷ xs) = grind (arith, common_steps, h x, kept_within p q h xs)
+
 -- what a filter leaves was there, and passes
 pub in_filter : {X : Type 0} (p : X → Bool) (xs : List X) (x : X) → In x (filter p xs) → In x xs × (p x ≡ true)
 in_filter p [] x m = elim m [ ]
@@ -81,6 +86,19 @@ in_filter p (y ∷ ys) x m = grind (arith, common_steps, in_filter p ys x)
 pub in_append : {X : Type 0} (x : X) (xs ys : List X) → In x (xs ++ ys) → In x xs ⊎ In x ys
 in_append x [] ys h = inr h
 in_append x (y ∷ xs) ys h = grind (arith, common_steps, in_append x xs ys)
+
+pub in_front : {X : Type 0} (x : X) (xs ys : List X) → In x xs → In x (xs ++ ys)
+in_front x [] ys h = elim h [ ]
+in_front x (y ∷ xs) ys h = grind (arith, common_steps, in_front x xs ys)
+
+pub in_back : {X : Type 0} (x : X) (xs ys : List X) → In x ys → In x (xs ++ ys)
+in_back x [] ys h = h
+in_back x (y ∷ xs) ys h = inr (in_back x xs ys h)
+
+-- what stands there and passes is left by a filter
+pub passes : {X : Type 0} (p : X → Bool) (xs : List X) (x : X) → In x xs → p x ≡ true → In x (filter p xs)
+passes p [] x m e = elim m [ ]
+passes p (y ∷ xs) x m e = grind (arith, common_steps, passes p xs x)
 
 pub found_in : (k : ℕ) (ls : List Line) (l : Line) → line_of k ls ≡ Some l → In l ls
 found_in k [] l e = cc

@@ -65,10 +65,10 @@ module _ {P C : Type 0} (poller : PollerOf P) (clock : ClockOf C) where
         (refl, new_table s s' _ h.2 w.1, record { asked = (s'.poller, h.1, (refl, grind (arith, h.2))) })
 
   -- what a call touches by every fate, it touched
-  pub came_touches : (of : World → Fate → Come) (f : ℕ) (s : Poll P C) (r : Answer) (s' : Poll P C)
-      → ((w : World) (fate : Fate) → Touches f w.entries w.lines (of w fate).world.entries (of w fate).world.lines) → CameTo poller clock of s r s' → TouchesFile poller f s s'
-  came_touches of f s r s' touches h =
-      let w = world_of poller s in subst (λ (x : World). Touches f w.entries w.lines x.entries x.lines) (sym h.world) (touches w h.fate)
+  pub came_touches : (of : World → Fate → Come) (f : ℕ) (k : Option ℕ) (s : Poll P C) (r : Answer) (s' : Poll P C)
+      → ((w : World) (fate : Fate) → Touches f k w.entries w.lines (of w fate).world.entries (of w fate).world.lines) → CameTo poller clock of s r s' → TouchesFile poller f k s s'
+  came_touches of f k s r s' touches h =
+      let w = world_of poller s in subst (λ (x : World). Touches f k w.entries w.lines x.entries x.lines) (sym h.world) (touches w h.fate)
 
 -- WHAT WAS ASKED
 

@@ -31,10 +31,12 @@ pub record State (P C : Type 0) : Type 0 where
   pub wheel : Wheel
   -- the level table, where one stands
   pub lines : Option (List Line)
+  -- what the poller reported last
+  pub reported : List Event
 
--- a function and no model: private calls read what the poller reported last, which stands in no state
+-- a function and no model: a wait reads that the timers rise, and that few events were reported
 abbrev pub state_of : {P C : Type 0} → Poll P C → State P C
-state_of s = record { poller = s.poller; clock = s.clock; wheel = wheel_of s.timers; lines = s.level_triggered }
+state_of s = record { poller = s.poller; clock = s.clock; wheel = wheel_of s.timers; lines = s.level_triggered; reported = s.events.items.items }
 
 -- a state with another poller, clock, wheel or table, by name, as clauses and laws say it
 abbrev pub with_poller : {P C : Type 0} → State P C → P → State P C
@@ -48,6 +50,10 @@ with_wheel s w = record s { wheel = w }
 
 abbrev pub with_lines : {P C : Type 0} → State P C → Option (List Line) → State P C
 with_lines s ls = record s { lines = ls }
+
+-- a wait leaves another poller, and what it reported
+abbrev pub with_report : {P C : Type 0} → State P C → P → List Event → State P C
+with_report s p vs = record s { poller = p; reported = vs }
 
 -- With a table the poller does not know level mode: Edge is refused, and all else goes down as OneShot.
 abbrev pub mode_below_of : Option (List Line) → ℕ → Mode → Outcome Mode
@@ -126,17 +132,17 @@ module _ {P C : Type 0} (poller : PollerOf P) (clock : ClockOf C) where
   -- after re-arming: lost events where it failed, else the timers that are due by a fresh reading
   abbrev pub Takes : Answer → List Event → State P C → P → C → Answer → List PollEvent → State P C → Type 0
   Takes (refused n c) vs s p k r es s' =
-      (r ≡ refused n c) × (es ≡ map polled vs) × (s' ≡ with_clock (with_poller s p) k)
+      (r ≡ refused n c) × (es ≡ map polled vs) × (s' ≡ with_clock (with_report s p vs) k)
   Takes (done u) vs s p k r es s' =
       (now : ℕ) × clock.reads k now s'.clock
       × (r ≡ done tt)
       × (es ≡ map polled vs ++ map rung (due_by now s.wheel.timers))
-      × (s' ≡ with_wheel (with_clock (with_poller s p) s'.clock) (rest now s.wheel))
+      × (s' ≡ with_wheel (with_clock (with_report s p vs) s'.clock) (rest now s.wheel))
 
   -- after the wait
   abbrev pub Wakes : Answer → List Event → State P C → P → C → Answer → List PollEvent → State P C → Type 0
   Wakes (refused n c) vs s p k r es s' =
-      (r ≡ refused n c) × (es ≡ []) × (s' ≡ with_clock (with_poller s p) k)
+      (r ≡ refused n c) × (es ≡ []) × (s' ≡ with_clock (with_report s p vs) k)
   Wakes (done u) vs s p k r es s' =
       (a : Answer) × (q : P) × RearmsIn poller s.lines vs p a q × Takes a vs s q k r es s'
 

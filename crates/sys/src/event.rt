@@ -15,16 +15,24 @@ pub enum Class {
     Timer,
 }
 
-// The letter by which the sheets name it.
+impl Class {
+    // The letter by which the sheets name it.
+    pub fn letter(self) -> &'static str
+        ensures { result.now ≡ letter_of self }
+    {
+        match self {
+            Class::Synthetic => "S",
+            Class::Polled => "P",
+            Class::Timer => "T",
+        }
+    }
+}
+
 impl fmt::Display for Class {
     ghost output = { λ class. Some (letter_of class) };
 
     fn fmt<W: fmt::Write>(&self, f: &mut fmt::Formatter<W>) -> fmt::Result {
-        f.write_str(match self {
-            Class::Synthetic => "S",
-            Class::Polled => "P",
-            Class::Timer => "T",
-        })
+        f.write_str(self.letter())
     }
 }
 

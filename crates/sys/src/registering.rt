@@ -1,12 +1,13 @@
 // Registration: what a source asks of the poller and the timers.
-ghost use Rattle.std.specs.Prelude.{◌≡◌, [], ◌∷◌, IfOk, None};
+ghost use Rattle.std.specs.Prelude.{◌≡◌, [], ◌∷◌, IfOk, Some, None};
+ghost use Rattle.token.specs.Key.{key_of};
 ghost use Rattle.token.specs.Refusal.{Done, done, outcome};
 ghost use Rattle.timer_wheel.specs.Wheel.{cancel_of, empty, insert_of, reuse_of};
 ghost use Rattle.levels.specs.Table.{dropped, entered};
 ghost use Rattle.levels.specs.declared.table.Line.{Line};
 ghost use Rattle.std.specs.Option.{option_map};
 ghost use Rattle.sys.specs.Laws.{TouchesFile};
-ghost use Rattle.sys.specs.Polling.{AsksBy, LetsGo, Registers, Unregisters, line_for, mode_below_of, new_table, request, state_of, with_clock, with_lines, with_wheel};
+ghost use Rattle.sys.specs.Polling.{AsksBy, LetsGo, Registers, Unregisters, line_for, mode_below_of, new_table, request, state_of, with_clock, with_lines, with_poller, with_wheel};
 ghost use Rattle.sys.specs.World.{Between, CameTo, let_go_of, read, register_of, reregister_of, unregister_of, world_of};
 
 use crate::clock::{Clock, Environment};
@@ -46,7 +47,7 @@ impl<P: Poller, C: Clock> Poll<P, C> {
     where
         P: Drop,
         C: Drop,
-        ensures { IfOk result (λ s. state_of s ≡ record { poller = poller; clock = clock; wheel = empty; lines = new_table P.Poller.LEVEL }) }
+        ensures { IfOk result (λ s. state_of s ≡ record { poller = poller; clock = clock; wheel = empty; lines = new_table P.Poller.LEVEL; reported = [] }) }
     {
         let level_triggered = if P::LEVEL {
             None
@@ -74,6 +75,7 @@ impl<P: Poller, C: Clock> Poll<P, C> {
     // Lets the world change what the poller and the clock will say.
     pub fn arrange<E: Environment<P, C>>(&mut self, environment: &mut E)
         ensures is { E.Environment.arranges environment.old (state_of self.old).poller (state_of self.old).clock environment.new (state_of self.new).poller (state_of self.new).clock }
+        ensures rest { state_of self.new ≡ with_clock (with_poller (state_of self.old) (state_of self.new).poller) (state_of self.new).clock }
         ensures same { world_of P.Poller self.new ≡ world_of P.Poller self.old }
     {
         environment.arrange(&mut self.poller, &mut self.clock);
@@ -89,7 +91,7 @@ impl<P: Poller, C: Clock> Poll<P, C> {
     ) -> Result<(), Error>
         ensures is { Registers P.Poller.adds (line_for file interest token) mode (state_of self.old) (outcome result) (state_of self.new) }
         ensures plain { CameTo P.Poller C.Clock (register_of (line_for file interest token) mode) self.old (outcome result) self.new }
-        ensures touches { TouchesFile P.Poller file self.old self.new }
+        ensures touches { TouchesFile P.Poller file (Some (key_of token)) self.old self.new }
     {
         let line = to_line(file, interest, token);
         self.send(line, mode, P::add)
@@ -104,7 +106,7 @@ impl<P: Poller, C: Clock> Poll<P, C> {
     ) -> Result<(), Error>
         ensures is { Registers P.Poller.modifies (line_for file interest token) mode (state_of self.old) (outcome result) (state_of self.new) }
         ensures plain { CameTo P.Poller C.Clock (reregister_of (line_for file interest token) mode) self.old (outcome result) self.new }
-        ensures touches { TouchesFile P.Poller file self.old self.new }
+        ensures touches { TouchesFile P.Poller file (Some (key_of token)) self.old self.new }
     {
         let line = to_line(file, interest, token);
         self.send(line, mode, P::modify)
@@ -113,7 +115,7 @@ impl<P: Poller, C: Clock> Poll<P, C> {
     pub fn unregister(&mut self, file: u32) -> Result<(), Error>
         ensures is { Unregisters P.Poller file (state_of self.old) (outcome result) (state_of self.new) }
         ensures plain { CameTo P.Poller C.Clock (unregister_of file) self.old (outcome result) self.new }
-        ensures touches { TouchesFile P.Poller file self.old self.new }
+        ensures touches { TouchesFile P.Poller file None self.old self.new }
     {
         self.delete(file)
     }
@@ -122,7 +124,7 @@ impl<P: Poller, C: Clock> Poll<P, C> {
     pub fn let_go(&mut self, file: u32)
         ensures is { LetsGo P.Poller file (state_of self.old) (state_of self.new) }
         ensures plain { CameTo P.Poller C.Clock (let_go_of file) self.old (done tt) self.new }
-        ensures touches { TouchesFile P.Poller file self.old self.new }
+        ensures touches { TouchesFile P.Poller file None self.old self.new }
     {
         let _ = self.poller.delete(file);
         self.forget(file);

@@ -1,7 +1,7 @@
 // A clock that is set, and what a script of the test bench does between two calls of the loop.
 ghost use Rattle.std.specs.Prelude.{◌≡◌};
 ghost use Rattle.poller.specs.Bench.{bench_of};
-ghost use Rattle.sys.specs.Setting.{set_by};
+ghost use Rattle.sys.specs.Setting.{handed_over, set_by};
 
 use crate::clock::{Clock, Environment};
 use poller::{BenchPoller, Step};
@@ -29,7 +29,7 @@ pub struct Setting {
 }
 
 impl Environment<BenchPoller, SetClock> for Setting {
-    ghost arranges = { λ s p c s' p' c'. (bench_of p' ≡ set_by s (bench_of p)) × (c'.time ≡ s.time) };
+    ghost arranges = { λ s p c s' p' c'. (bench_of p' ≡ set_by s (bench_of p)) × (c'.time ≡ s.time) × (s' ≡ handed_over s) };
 
     fn arrange(&mut self, poller: &mut BenchPoller, clock: &mut SetClock) {
         clock.time = self.time;

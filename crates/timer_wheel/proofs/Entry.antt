@@ -2,9 +2,8 @@
 use Rattle.std.proofs.Common.{◌≡◌, ℕ, ◌+◌, ◌<◌, ◌≤◌, Bool, true, false, cond, eqb, leb, List, [], ◌∷◌, ◌++◌, length, take, drop, sym, refl, arith}
 use Rattle.std.specs.List.{AllByRecursion, insert}
 use Rattle.std.specs.List.Sorted.{IsPartitionPoint}
-use Rattle.std.proofs.ByRecursion.{All-from_get_or}
 use Rattle.std.proofs.lemmas.List.{append-nil, take-append-drop}
-use Rattle.std.proofs.lemmas.List.Elements.{filter-append}
+use Rattle.std.proofs.lemmas.List.Elements.{All-from_get_or, filter-append, recursion_from_All}
 use Rattle.std.proofs.lemmas.List.Sorted.{IsNonDecreasingBy-insert}
 use Rattle.std.proofs.lemmas.Grind.{common_steps}
 use Rattle.timer_wheel.specs.declared.timeout.TimeoutData.{TimeoutData}
@@ -33,10 +32,14 @@ pub record Entered (x : TimeoutData) (xs ys : List TimeoutData) : Type 0 where
 module _ (x : TimeoutData) (xs : List TimeoutData) (i : ℕ) (within : i ≤ length xs)
     (split : IsPartitionPoint (λ (y : TimeoutData). leb y.deadline x.deadline ≡ true) (λ (y : TimeoutData). leb y.deadline x.deadline ≡ false) xs i) where
   sooner : AllByRecursion (λ y. y.deadline ≤ x.deadline) (take i xs)
-  sooner = All-from_get_or (λ (y : TimeoutData). y.deadline ≤ x.deadline) (take i xs) x (λ k lt. grind (arith, common_steps, split.0 k x))
+  sooner =
+      let P = λ (y : TimeoutData). y.deadline ≤ x.deadline in
+      recursion_from_All P (take i xs) (All-from_get_or P (take i xs) x (λ k lt. grind (arith, common_steps, split.0 k x)))
 
   later : AllByRecursion (λ y. x.deadline < y.deadline) (drop i xs)
-  later = All-from_get_or (λ (y : TimeoutData). x.deadline < y.deadline) (drop i xs) x (λ k lt. grind (arith, common_steps, split.1 (i + k) x))
+  later =
+      let P = λ (y : TimeoutData). x.deadline < y.deadline in
+      recursion_from_All P (drop i xs) (All-from_get_or P (drop i xs) x (λ k lt. grind (arith, common_steps, split.1 (i + k) x)))
 
   inserted : Rising xs → Entered x xs (insert xs i x)
   inserted r =

@@ -1,7 +1,7 @@
 -- The laws of expiry.
 use Rattle.std.proofs.Common.{◌≡◌, ℕ, ◌<◌, leb, List, [], ◌∷◌, map, refl, arith}
 use Rattle.std.specs.List.{AllByRecursion}
-use Rattle.std.proofs.ByRecursion.{All-from_get_or}
+use Rattle.std.proofs.lemmas.List.Elements.{All-from_get_or, recursion_from_All}
 use Rattle.std.proofs.lemmas.List.Sorted.{IsNonDecreasingBy-drop}
 use Rattle.std.proofs.lemmas.List.Kept.{IsNonDecreasingBy-filter}
 use Rattle.std.proofs.lemmas.Grind.{common_steps}
@@ -18,7 +18,9 @@ late n (x ∷ xs) a = grind (arith, common_steps, late n xs a.1)
 
 -- behind one of them, all are
 all_late : (n : ℕ) (x : TimeoutData) (xs : List TimeoutData) → n < x.deadline → Rising (x ∷ xs) → AllByRecursion (λ y. n < y.deadline) (x ∷ xs)
-all_late n x xs lt r = All-from_get_or (λ (y : TimeoutData). n < y.deadline) (x ∷ xs) x (λ i h. omega (arith, lt, r 0 i x (omega arith) h))
+all_late n x xs lt r =
+    let P = λ (y : TimeoutData). n < y.deadline in
+    recursion_from_All P (x ∷ xs) (All-from_get_or P (x ∷ xs) x (λ i h. omega (arith, lt, r 0 i x (omega arith) h)))
 
 abbrev wheel : ℕ → List TimeoutData → Wheel
 wheel k xs = record { timers = xs; next = k }

@@ -1,4 +1,4 @@
-use Rattle.std.proofs.Common.{rules}
+use Rattle.std.proofs.Common.{None, rules}
 use Rattle.sys.specs.Polling.{LetsGo, state_of}
 use Rattle.sys.specs.World.{let_go_of}
 use Rattle.sys.proofs.Locality.{let_go_touches}
@@ -11,4 +11,4 @@ returns g c =
     let p = g.P.Poller in
     let i : LetsGo p c.args.file (state_of c.args.self.now) (state_of c.forget.new.self) = search rules in
     let came = lets_go_plain p g.C.Clock g.met.P.Poller.deleting c.args.file c.args.self.now c.forget.new.self i in
-    record { is = i; plain = came; touches = came_touches p g.C.Clock (let_go_of c.args.file) c.args.file _ _ _ (let_go_touches c.args.file) came }
+    record { is = i; plain = came; touches = came_touches p g.C.Clock (let_go_of c.args.file) c.args.file None _ _ _ (let_go_touches c.args.file) came }

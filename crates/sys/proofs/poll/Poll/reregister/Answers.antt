@@ -1,5 +1,6 @@
-use Rattle.std.proofs.Common.{arith}
+use Rattle.std.proofs.Common.{Some, arith}
 use Rattle.std.proofs.lemmas.Grind.{common_steps}
+use Rattle.token.specs.Key.{key_of}
 use Rattle.token.specs.Refusal.{outcome}
 use Rattle.sys.specs.Polling.{Registers, line_for, state_of}
 use Rattle.sys.specs.World.{reregister_of}
@@ -14,4 +15,4 @@ returns g c =
     let line = line_for c.args.file c.args.interest c.args.token in
     let i : Registers p.modifies line c.args.mode (state_of c.args.self.now) (outcome c.send.result) (state_of c.send.new.self) = grind (arith, common_steps, c.send.ensures) in
     let came = reregisters_plain p g.C.Clock line c.args.mode c.args.self.now (outcome c.send.result) c.send.new.self g.met.P.Poller.modifying i in
-    record { is = i; plain = came; touches = came_touches p g.C.Clock (reregister_of line c.args.mode) c.args.file _ _ _ (reregister_touches line c.args.mode) came }
+    record { is = i; plain = came; touches = came_touches p g.C.Clock (reregister_of line c.args.mode) c.args.file (Some (key_of c.args.token)) _ _ _ (reregister_touches line c.args.mode) came }

@@ -18,4 +18,4 @@ pub returns : goal.returns
 returns g c =
     let inv = c.loop-token.invariant in
     let t = taking_all c.now-clock.result (wheel_of c.args.self.now.timers) _ _ _ _ c.args.self.now.timers.rising inv.taking c.in_default.ensures.is in
-    (c.now-clock.result, rw (ap (λ s. s.clock) inv.same) c.now-clock.ensures, t.0, cc (ap (λ s. s.poller) inv.same, ap (λ s. s.lines) inv.same, t.1))
+    (c.now-clock.result, rw (ap (λ s. s.clock) inv.same) c.now-clock.ensures, t.0, cc (ap (λ s. s.poller) inv.same, ap (λ s. s.lines) inv.same, ap (λ s. s.reported) inv.same, t.1))

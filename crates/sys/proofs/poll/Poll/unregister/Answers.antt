@@ -1,3 +1,4 @@
+use Rattle.std.proofs.Common.{None}
 use Rattle.sys.specs.World.{unregister_of}
 use Rattle.sys.proofs.Locality.{unregister_touches}
 use Rattle.sys.proofs.Plain.{came_touches, unregisters_plain}
@@ -8,4 +9,4 @@ pub returns : goal.returns
 returns g c =
     let p = g.P.Poller in
     let came = unregisters_plain p g.C.Clock g.met.P.Poller.deleting c.args.file c.args.self.now _ c.delete.new.self c.delete.ensures in
-    record { is = c.delete.ensures; plain = came; touches = came_touches p g.C.Clock (unregister_of c.args.file) c.args.file _ _ _ (unregister_touches c.args.file) came }
+    record { is = c.delete.ensures; plain = came; touches = came_touches p g.C.Clock (unregister_of c.args.file) c.args.file None _ _ _ (unregister_touches c.args.file) came }
