@@ -10,11 +10,11 @@ ghost use Rattle.one_file.proofs.Laws.{registers_lawful, reregisters_lawful, unr
 ghost use Rattle.doorbell.specs.Laws.{two_drawn};
 ghost use Rattle.std.proofs.Common.{rules};
 
-use kinds::{Errand, Errands, EventSource, Reply};
+use kinds::{Errand, Errands, EventIterator, EventSource, Reply, Spare};
 use one_file::OneFile;
 use poller::{Interest, Mode, Poller, Readiness};
 use post_action::PostAction;
-use sys::{Clock, Poll, PollEvent};
+use sys::{Clock, Poll};
 use token::{Error, Token, TokenFactory};
 
 // The token of the file, and that of the synthetic events.
@@ -80,6 +80,8 @@ impl EventSource for Doorbell {
 
     ghost sees = { λ s vs s'. s' ≡ s };
 
+    ghost ends = { λ s. Unit {0} };
+
     ghost registering = { λ s w d xs r s' w' d' h. registers_lawful two_tokens true s.file two_drawn w d xs r s'.file w' d' h.0 };
 
     ghost reregistering = { λ s w d xs r s' w' d' h. reregisters_lawful two_tokens true s.file two_drawn w d xs r s'.file w' d' h.0 };
@@ -123,10 +125,6 @@ impl EventSource for Doorbell {
 
     fn end(self) {}
 
-    fn copy(&self) -> Self {
-        *self
-    }
-
     // The first token's event adds one to the count, and the second's takes one off.
     fn process_events<P: Poller, C: Clock>(
         &mut self,
@@ -154,5 +152,11 @@ impl EventSource for Doorbell {
         }
     }
 
-    fn before_handle_events(&mut self, _registration: Token, _events: &[PollEvent]) {}
+    fn before_handle_events(&mut self, _events: EventIterator<'_>) {}
+}
+
+impl Spare for Doorbell {
+    fn copy(&self) -> Self {
+        *self
+    }
 }

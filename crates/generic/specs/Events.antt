@@ -15,14 +15,16 @@ use Rattle.generic.specs.declared.generic.Generic.{Generic}
 abbrev pub generic_over : {H : Type 0} → ℕ → Interest → Mode → H → Generic H
 generic_over f i m h = record { file = record { file = f; interest = i; mode = m; tickets = None }; handler = h }
 
+-- Only a call of the handler gives `handles`, and nobody has a copy of the handler that could be called in its place or put back after a call.
+-- So `Own` says that it was called once, and `Other`, whose source is as it was, that it was not called.
 module _ {H : Type 0} (handles : H → Readiness → List Errand → Outcome PostAction → H → List Errand → Type 0) (s : Generic H) (x : Readiness) (t : Token) (es : List Errand) where
-  -- an event under its own token goes to the handler
+  -- an event under its own token goes to the handler, whose answer is the answer
   pub record Own (r : Outcome PostAction) (s' : Generic H) (es' : List Errand) : Type 0 where
     pub token : s.file.tickets ≡ Some t
     pub handled : handles s.handler x es r s'.handler es'
     pub file : s'.file ≡ s.file
 
-  -- one under another token gets Continue, and the handler is not called
+  -- one under another token gets Continue, and changes nothing
   pub record Other (r : Outcome PostAction) (s' : Generic H) (es' : List Errand) : Type 0 where
     pub token : s.file.tickets ≡ Some t → ⊥
     pub answer : r ≡ done Continue

@@ -10,14 +10,15 @@ ghost use Rattle.generic.specs.Laws.{processes_lawful};
 ghost use Rattle.std.proofs.Common.{rules};
 
 use crate::handler::GenericHandler;
-use kinds::{Errand, Errands, EventSource, Reply};
+use kinds::{Errand, Errands, EventIterator, EventSource, Reply, Spare};
 use one_file::OneFile;
 use poller::{Interest, Mode, Poller, Readiness};
 use post_action::PostAction;
-use sys::{Clock, Poll, PollEvent};
+use sys::{Clock, Poll};
 use token::{Error, Token, TokenFactory};
 
-#[derive(Clone, Copy)]
+// Neither Clone nor Copy: where it is called no event can go to a copy of its handler.
+#[derive(Drop)]
 pub struct Generic<H> {
     pub(crate) file: OneFile<Token>,
     pub(crate) handler: H,
@@ -35,7 +36,7 @@ impl<H: GenericHandler> Generic<H> {
     }
 }
 
-impl<H: GenericHandler + Copy> EventSource for Generic<H> {
+impl<H: GenericHandler + Drop> EventSource for Generic<H> {
     ghost means = { λ s. meaning one_token s.file false };
 
     ghost registers = { λ s w d xs r s' w' d'. Registers one_token s.file w d xs r s'.file w' d' × (s'.handler ≡ s.handler) };
@@ -53,6 +54,8 @@ impl<H: GenericHandler + Copy> EventSource for Generic<H> {
     ghost sleeps = { λ s r s'. (r ≡ done None) × (s' ≡ s) };
 
     ghost sees = { λ s vs s'. s' ≡ s };
+
+    ghost ends = { λ s. Unit {0} };
 
     ghost registering = { λ s w d xs r s' w' d' h. registers_lawful one_token false s.file one_drawn w d xs r s'.file w' d' h.0 };
 
@@ -97,10 +100,6 @@ impl<H: GenericHandler + Copy> EventSource for Generic<H> {
 
     fn end(self) {}
 
-    fn copy(&self) -> Self {
-        *self
-    }
-
     // An event under another token is not its own any more.
     fn process_events<P: Poller, C: Clock>(
         &mut self,
@@ -126,5 +125,14 @@ impl<H: GenericHandler + Copy> EventSource for Generic<H> {
         Ok(None)
     }
 
-    fn before_handle_events(&mut self, _registration: Token, _events: &[PollEvent]) {}
+    fn before_handle_events(&mut self, _events: EventIterator<'_>) {}
+}
+
+impl<H: GenericHandler + Copy> Spare for Generic<H> {
+    fn copy(&self) -> Self {
+        Generic {
+            file: self.file,
+            handler: self.handler,
+        }
+    }
 }

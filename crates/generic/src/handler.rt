@@ -2,7 +2,8 @@
 // and what it asks for would obey no law.
 ghost use Rattle.poller.specs.declared.entry.Readiness.{Readiness};
 ghost use Rattle.post_action.specs.declared.PostAction.{PostAction};
-ghost use Rattle.rules.specs.Kinds.{Faulty, Grown};
+ghost use Rattle.rules.specs.Kinds.{Grown};
+ghost use Rattle.rules.specs.Refusals.{RefusedBy, by_event};
 ghost use Rattle.kinds.specs.declared.errand.Errand.{Errand};
 ghost use Rattle.token.specs.Refusal.{Outcome, outcome};
 ghost use Rattle.std.specs.Prelude.{List};
@@ -19,6 +20,6 @@ pub trait GenericHandler {
     fn handle(&mut self, readiness: Readiness, errands: &mut Errands) -> Result<PostAction, Error>
         ensures { handles self.old readiness errands.old (outcome result) self.new errands.new };
 
-    // Errands are asked for behind those that stand, and a fault is one of an event's.
-    ghost handling: { (h : Self) (x : Readiness) (es : List Errand) (r : Outcome PostAction) (h' : Self) (es' : List Errand) → handles h x es r h' es' → Grown es es' × Faulty r };
+    // Errands are asked for behind those that stand, and a refusal is one of an event's.
+    ghost handling: { (h : Self) (x : Readiness) (es : List Errand) (r : Outcome PostAction) (h' : Self) (es' : List Errand) → handles h x es r h' es' → Grown es es' × RefusedBy by_event r };
 }

@@ -3,10 +3,14 @@
 
 mod errand;
 mod errands;
+mod events;
 mod source;
+mod spare;
 mod sum;
 
 pub use either::Either;
 pub use errand::{Errand, Reply};
 pub use errands::Errands;
+pub use events::EventIterator;
 pub use source::EventSource;
+pub use spare::Spare;

@@ -5,7 +5,7 @@ ghost use Rattle.poller.specs.declared.entry.Readiness.{Readiness};
 ghost use Rattle.post_action.specs.declared.PostAction.{PostAction};
 ghost use Rattle.rules.specs.Kinds.{LettingGo, Processing, Registering, Reregistering, Unregistering, Wakes};
 ghost use Rattle.rules.specs.Meaning.{Drawer, Meaning};
-ghost use Rattle.kinds.specs.Events.{of_source};
+ghost use Rattle.kinds.specs.Shown.{left};
 ghost use Rattle.kinds.specs.declared.errand.Errand.{Errand};
 ghost use Rattle.kinds.specs.declared.errand.Reply.{Reply};
 ghost use Rattle.sys.specs.World.{Between, Exchange, World};
@@ -15,9 +15,10 @@ ghost use Rattle.token.specs.declared.token.Token.{Token};
 
 use crate::errand::{Errand, Reply};
 use crate::errands::Errands;
+use crate::events::EventIterator;
 use poller::{Poller, Readiness};
 use post_action::PostAction;
-use sys::{Clock, Poll, PollEvent};
+use sys::{Clock, Poll};
 use token::{Error, Token, TokenFactory};
 
 // A kind without hooks says so call by call: a body here would have to establish `hears`, `sleeps` and `sees`,
@@ -43,6 +44,9 @@ pub trait EventSource {
 
     ghost sees: { Self → List PollEvent → Self → Type 0 };
 
+    // The value ended as it was then, so that no call is made on one that is about to end.
+    ghost ends: { Self → Type 0 };
+
     fn register<P: Poller, C: Clock>(
         &mut self,
         poll: &mut Poll<P, C>,
@@ -65,12 +69,8 @@ pub trait EventSource {
         ensures { Between P.Poller C.Clock poll.old poll.new (λ w xs w'. leaves self.old w xs self.new w') };
 
     // Ends a value that holds nothing any more.
-    fn end(self);
-
-    // A copy, as that of a spare, takes no memory.
-    // Not `Clone`, which may reserve some, nor `Copy`: a kind that shares memory has an equal copy too.
-    fn copy(&self) -> Self
-        ensures { result ≡ self.now };
+    fn end(self)
+        ensures { ends self };
 
     fn process_events<P: Poller, C: Clock>(
         &mut self,
@@ -93,9 +93,9 @@ pub trait EventSource {
     fn before_sleep(&mut self) -> Result<Option<(Readiness, Token)>, Error>
         ensures { sleeps self.old (outcome result) self.new };
 
-    // Told after a wait. `events` are the poller's and the timers'; only those of `registration` are its own.
-    fn before_handle_events(&mut self, registration: Token, events: &[PollEvent])
-        ensures { sees self.old (of_source registration events.now) self.new };
+    // Shown after a wait its own events, of the poller's and the timers'.
+    fn before_handle_events(&mut self, events: EventIterator<'_>)
+        ensures { sees self.old (left events.entry) self.new };
 
     ghost registering: { (s : Self) (w : World) (d : Drawer) (xs : List Exchange) (r : Answer) (s' : Self) (w' : World) (d' : Drawer) → registers s w d xs r s' w' d' → Registering (means s) w d xs r (means s') w' d' };
 

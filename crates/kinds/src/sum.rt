@@ -4,11 +4,13 @@ ghost use Rattle.std.proofs.Common.{rules};
 
 use crate::errand::{Errand, Reply};
 use crate::errands::Errands;
+use crate::events::EventIterator;
 use crate::source::EventSource;
+use crate::spare::Spare;
 use either::{Either, for_both, map_both};
 use poller::{Poller, Readiness};
 use post_action::PostAction;
-use sys::{Clock, Poll, PollEvent};
+use sys::{Clock, Poll};
 use token::{Error, Token, TokenFactory};
 
 impl<A: EventSource, B: EventSource> EventSource for Either<A, B> {
@@ -29,6 +31,8 @@ impl<A: EventSource, B: EventSource> EventSource for Either<A, B> {
     ghost sleeps = { λ s r s'. SameSide (λ a c. A.EventSource.sleeps a r c) (λ a c. B.EventSource.sleeps a r c) s s' };
 
     ghost sees = { λ s vs s'. SameSide (λ a c. A.EventSource.sees a vs c) (λ a c. B.EventSource.sees a vs c) s s' };
+
+    ghost ends = { λ s. SameSide (λ a c. A.EventSource.ends a) (λ a c. B.EventSource.ends a) s s };
 
     ghost registering = { Prim.search rules };
 
@@ -75,10 +79,6 @@ impl<A: EventSource, B: EventSource> EventSource for Either<A, B> {
         for_both!(self, kind => kind.end())
     }
 
-    fn copy(&self) -> Self {
-        map_both!(self, kind => kind.copy())
-    }
-
     fn process_events<P: Poller, C: Clock>(
         &mut self,
         poll: &mut Poll<P, C>,
@@ -101,7 +101,13 @@ impl<A: EventSource, B: EventSource> EventSource for Either<A, B> {
         for_both!(self, kind => kind.before_sleep())
     }
 
-    fn before_handle_events(&mut self, registration: Token, events: &[PollEvent]) {
-        for_both!(self, kind => kind.before_handle_events(registration, events))
+    fn before_handle_events(&mut self, events: EventIterator<'_>) {
+        for_both!(self, kind => kind.before_handle_events(events))
+    }
+}
+
+impl<A: Spare, B: Spare> Spare for Either<A, B> {
+    fn copy(&self) -> Self {
+        map_both!(self, kind => kind.copy())
     }
 }

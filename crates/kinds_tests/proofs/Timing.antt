@@ -1,5 +1,5 @@
 -- The timers around a wait: what it takes may as well be taken before.
-use Rattle.std.proofs.Common.{◌≡◌, ℕ, Bool, true, List, [], ◌∷◌, ◌++◌, filter, nat_lt, Some, None, Option, refl, subst, inl, inr, arith}
+use Rattle.std.proofs.Common.{◌≡◌, ℕ, Bool, List, [], ◌∷◌, ◌++◌, filter, nat_lt, Some, None, Option, refl, subst, inl, inr, arith}
 use Rattle.std.proofs.lemmas.Grind.{common_steps}
 use Rattle.token.specs.Refusal.{done, refused}
 use Rattle.poller.specs.declared.entry.Event.{Event}
@@ -14,11 +14,10 @@ use Rattle.sys.specs.Laws.{In}
 use Rattle.sys.specs.Polling.{Polls, State, Takes, Wakes}
 use Rattle.sys.specs.Timeout.{TimedBy}
 use Rattle.sys.specs.World.{Asked, Exchange, added, deleted, modified, read, waited}
-use Rattle.sys.proofs.Entries.{in_filter}
 use Rattle.rules.specs.Meaning.{Nothing}
 use Rattle.rules.specs.Timers.{Timers, foreign}
-use Rattle.rules.proofs.Timers.{timers_then}
-use Rattle.kinds_tests.specs.Timing.{LeftBy, Readings, Timed}
+use Rattle.rules.proofs.Timers.{forward_then, joins_then, kept_standings, only_then, others_then}
+use Rattle.kinds_tests.specs.Timing.{LeftBy, Readings, Timed, TimersOver}
 
 -- LISTS
 
@@ -30,35 +29,41 @@ in_back : {X : Type 0} (x : X) (xs ys : List X) → In x ys → In x (xs ++ ys)
 in_back x [] ys h = h
 in_back x (y ∷ xs) ys h = inr (in_back x xs ys h)
 
-passes : {X : Type 0} (p : X → Bool) (xs : List X) (x : X) → In x xs → p x ≡ true → In x (filter p xs)
-passes p [] x m e = absurd m
-passes p (y ∷ xs) x m e = grind (arith, common_steps, passes p xs x)
-
 filters_swap : {X : Type 0} (p q : X → Bool) (xs : List X) → filter p (filter q xs) ≡ filter q (filter p xs)
 filters_swap p q [] = refl
 filters_swap p q (x ∷ xs) = grind (arith, common_steps, filters_swap p q xs)
 
 -- THE RULE OF THE TIMERS
 
+-- a call, and one that draws nothing
+pub over_two : (D : ℕ → Type 0) (cs cs' cs'' : List ℕ) (t t' t'' : Wheel) → Timers D cs t cs' t' → Timers Nothing cs' t' cs'' t'' → TimersOver D cs t cs'' t''
+over_two D cs cs' cs'' t t' t'' a b = record {
+  others = others_then D Nothing cs cs' cs'' t t' t'' a b;
+  only = λ x. grind (arith, only_then D Nothing cs cs' cs'' t t' t'' a b x);
+  from = λ x. grind (arith, a.own x, a.joins x.counter, b.only x, b.forward);
+  joins = joins_then D Nothing cs cs' cs'' t t' t'' a b;
+  forward = forward_then D Nothing cs cs' cs'' t t' t'' a b;
+}
+
 rest_timers : (D : ℕ → Type 0) (n : ℕ) (cs cs' : List ℕ) (t t' : Wheel) → Timers D cs t cs' t' → Timers D cs (rest n t) cs' (rest n t')
 rest_timers D n cs cs' t t' r =
-    let p = foreign cs t.next in
     let late = λ (x : TimeoutData). nat_lt n x.deadline in
+    let kept = λ (x : TimeoutData) (xs : List TimeoutData). kept_standings late x xs in
     record {
-      others = grind (arith, r.others, filters_swap p late t.timers, filters_swap p late t'.timers);
-      only = λ x m. grind (arith, common_steps, r.only x, in_filter late t'.timers x m, passes late t.timers x);
+      others = grind (arith, r.others, filters_swap (foreign cs t.next) late t.timers, filters_swap (foreign cs t.next) late t'.timers);
+      only = λ x. grind (arith, common_steps, r.only x, kept x t.timers, kept x t'.timers);
+      own = λ x. grind (arith, common_steps, r.own x, kept x t.timers, kept x t'.timers);
       joins = r.joins;
       forward = r.forward;
     }
 
 -- one call, a wait, and another
 left_timers : (D : ℕ → Type 0) (ns : List ℕ) (cs cs' cs'' : List ℕ) (t v v' t' : Wheel) → Timers D cs t cs' v → LeftBy ns v v' → Timers Nothing cs' v' cs'' t'
-    → (u : Wheel) × LeftBy ns t u × Timers D cs u cs'' t'
-left_timers D ns cs cs' cs'' t v v' t' a (inl e) b =
-    (t, inl refl, timers_then D Nothing D cs cs' cs'' t v t' (λ k f. f) (λ k f. absurd f) a (subst (λ (x : Wheel). Timers Nothing cs' x cs'' t') e b))
+    → (u : Wheel) × LeftBy ns t u × TimersOver D cs u cs'' t'
+left_timers D ns cs cs' cs'' t v v' t' a (inl e) b = (t, inl refl, over_two D cs cs' cs'' t v t' a (subst (λ (x : Wheel). Timers Nothing cs' x cs'' t') e b))
 left_timers D ns cs cs' cs'' t v v' t' a (inr h) b =
     let n = h.0 in
-    (rest n t, inr (n, h.1, refl), timers_then D Nothing D cs cs' cs'' (rest n t) (rest n v) t' (λ k f. f) (λ k f. absurd f) (rest_timers D n cs cs' t v a) (subst (λ (x : Wheel). Timers Nothing cs' x cs'' t') h.2 b))
+    (rest n t, inr (n, h.1, refl), over_two D cs cs' cs'' (rest n t) (rest n v) t' (rest_timers D n cs cs' t v a) (subst (λ (x : Wheel). Timers Nothing cs' x cs'' t') h.2 b))
 
 left_more : (ns ms ks : List ℕ) (t t' : Wheel) → LeftBy ms t t' → LeftBy (ns ++ ms ++ ks) t t'
 left_more ns ms ks t t' (inl e) = inl e

@@ -6,7 +6,7 @@ use crate::{files, timers};
 use doorbell::Doorbell;
 use either::Either;
 use generic::Generic;
-use kinds::{Errand, EventSource};
+use kinds::{Errand, EventSource, Spare};
 use poller::{BenchPoller, Interest, LinePoller, Mode};
 use post_action::PostAction;
 use std::alloc::Global;
@@ -15,7 +15,7 @@ use std::test::Fail;
 use timer::TimeoutAction;
 use token::Error;
 
-fn check<S: EventSource + Copy, P: Board>(
+fn check<S: EventSource + Drop, P: Board>(
     rt: &impl Abort,
     mut fixture: Fixture<P>,
     mut source: S,
@@ -62,7 +62,7 @@ fn check_files<P: Board>(rt: &impl Abort, heap: Global) -> Result<(), Fail> {
 
 fn check_timers<P: Board>(rt: &impl Abort, heap: Global) -> Result<(), Fail> {
     let timer = timers::timer(50, TimeoutAction::ToInstant(70));
-    let sum: Either<Doorbell, _> = Either::Right(timer);
+    let sum: Either<Doorbell, _> = Either::Right(timer.copy());
     check(rt, Fixture::<P>::new(heap)?, timer, timers::TIMER)?;
     check(rt, Fixture::<P>::new(heap)?, sum, timers::TIMER)
 }
@@ -93,7 +93,7 @@ fn file_64_is_refused(rt: HostRuntime) -> Result<(), Fail> {
         answer: Ok(PostAction::Continue),
     };
     let generic = Generic::new(64, Interest::READ, Mode::OneShot, handler);
-    let sum: Either<_, Doorbell> = Either::Left(generic);
+    let sum: Either<_, Doorbell> = Either::Left(generic.copy());
     check(&rt, Fixture::<LinePoller>::new(heap)?, generic, REFUSED)?;
     check(
         &rt,

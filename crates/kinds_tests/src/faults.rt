@@ -2,7 +2,7 @@
 use crate::calls::{CONTINUES, Call, Came, DONE, EXISTS, FAILED, NOT_FOUND, Row, follow};
 use crate::files::{self, HANDLED};
 use crate::fixture::Fixture;
-use kinds::EventSource;
+use kinds::{EventSource, Spare};
 use poller::{BenchPoller, Mode, Step};
 use std::alloc::Global;
 use std::process::Abort;
@@ -72,7 +72,7 @@ const LEVEL: &[Answers] = &[
     ],
 ];
 
-fn check_by_plan<S: EventSource + Copy>(
+fn check_by_plan<S: EventSource + Drop>(
     rt: &impl Abort,
     heap: Global,
     mut source: S,
@@ -88,7 +88,7 @@ fn check_by_plan<S: EventSource + Copy>(
 }
 
 // By row n, from 0, the poller's call after n others fails.
-fn fails_in_turn<S: EventSource + Copy>(
+fn fails_in_turn<S: Spare + Drop>(
     rt: &impl Abort,
     heap: Global,
     source: S,
@@ -97,7 +97,7 @@ fn fails_in_turn<S: EventSource + Copy>(
     for (works, row) in rows.iter().enumerate() {
         let mut steps = vec![in heap; Step::Work; works]?;
         steps.push(Step::Fail(4))?;
-        check_by_plan(rt, heap, source, steps.as_slice(), row)?;
+        check_by_plan(rt, heap, source.copy(), steps.as_slice(), row)?;
     }
     Ok(())
 }
@@ -168,7 +168,7 @@ fn unregister(handled: Came, asleep: Came) -> [Row; 8] {
     ]
 }
 
-fn follow_by_plan<S: EventSource + Copy>(
+fn follow_by_plan<S: EventSource + Drop>(
     rt: &impl Abort,
     heap: Global,
     mut source: S,
@@ -180,7 +180,7 @@ fn follow_by_plan<S: EventSource + Copy>(
     follow(rt, &mut fixture, &mut source, table)
 }
 
-fn each_fault<S: EventSource + Copy>(
+fn each_fault<S: Spare + Drop>(
     rt: &impl Abort,
     heap: Global,
     source: S,
@@ -198,7 +198,7 @@ fn each_fault<S: EventSource + Copy>(
         (&second, &unregister),
     ];
     for (steps, table) in plans {
-        follow_by_plan(rt, heap, source, steps, table)?;
+        follow_by_plan(rt, heap, source.copy(), steps, table)?;
     }
     Ok(())
 }

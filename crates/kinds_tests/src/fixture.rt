@@ -3,7 +3,7 @@ ghost use Rattle.std.specs.Prelude.{◌≡◌};
 ghost use Rattle.poller.specs.Line.{LinesSet, line_of};
 
 use crate::calls::{Call, Came};
-use kinds::{Errand, Errands, EventSource, Reply};
+use kinds::{Errand, Errands, EventIterator, EventSource, Reply};
 use poller::{BenchPoller, LinePoller, Poller, Readiness, Step};
 use std::alloc::{AllocError, Global};
 use std::test::Fail;
@@ -183,7 +183,10 @@ impl<P: Board> Fixture<P> {
             Call::Sleep => Ok(sleep(source)?),
             Call::Tell => {
                 source.told(Errand::Idle(5), Ok(Reply::Ticket(0)));
-                source.before_handle_events(token(0), self.events.items.as_slice());
+                source.before_handle_events(EventIterator::new(
+                    token(0),
+                    self.events.items.as_slice(),
+                ));
                 Ok(Came::Answer(Ok(())))
             }
         }

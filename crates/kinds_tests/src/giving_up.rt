@@ -1,9 +1,9 @@
 // A user of any source, over any poller and any clock: registered, and given up. It leans on the rules of source kinds alone.
 ghost use Rattle.rules.specs.Kinds.{Free, LettingGo};
 ghost use Rattle.rules.specs.Meaning.{Drawn};
-ghost use Rattle.rules.specs.Timers.{Timers};
 ghost use Rattle.sys.specs.World.{Between, world_of};
 ghost use Rattle.kinds_tests.specs.Leftovers.{Agreeing, OnlyStuckJoin};
+ghost use Rattle.kinds_tests.specs.Timing.{TimersOver};
 
 use kinds::EventSource;
 use poller::Poller;
@@ -27,7 +27,7 @@ pub fn register_and_give_up<P: Poller, C: Clock, S: EventSource>(
     ensures free { Free (S.EventSource.means source.new) }
     ensures entries { Free (S.EventSource.means source.old) → OnlyStuckJoin (world_of P.Poller poll.old).entries (world_of P.Poller poll.new).entries }
     ensures level { Agreeing (world_of P.Poller poll.old) → Agreeing (world_of P.Poller poll.new) }
-    ensures timers { Timers (Drawn factory.old factory.new) (S.EventSource.means source.old).counters (world_of P.Poller poll.old).wheel (S.EventSource.means source.new).counters (world_of P.Poller poll.new).wheel }
+    ensures timers { TimersOver (Drawn factory.old factory.new) (S.EventSource.means source.old).counters (world_of P.Poller poll.old).wheel (S.EventSource.means source.new).counters (world_of P.Poller poll.new).wheel }
 {
     let _ = source.register(poll, factory);
     give_up(source, poll);

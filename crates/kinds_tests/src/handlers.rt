@@ -1,5 +1,6 @@
 // Handlers of the tests. They obey the law of their trait, and nothing more is said of them.
-ghost use Rattle.rules.specs.Kinds.{Faulty, Grown};
+ghost use Rattle.rules.specs.Kinds.{Grown};
+ghost use Rattle.rules.specs.Refusals.{RefusedBy, by_event};
 
 use generic::GenericHandler;
 use kinds::{Errand, Errands};
@@ -17,7 +18,7 @@ pub struct Asks {
 }
 
 impl GenericHandler for Asks {
-    ghost handles = { λ h x es r h' es'. Grown es es' × Faulty r };
+    ghost handles = { λ h x es r h' es'. Grown es es' × RefusedBy by_event r };
 
     ghost handling = { λ h x es r h' es' handled. handled };
 

@@ -31,7 +31,7 @@ const OTHERS_STAY: &[Row] = &[
 ];
 
 // The source's event is lost, and what others have entered stays: an entry, and a timer that is not due.
-fn leaves_nothing<S: EventSource + Copy, P: Board>(
+fn leaves_nothing<S: EventSource + Drop, P: Board>(
     rt: &impl Abort,
     mut fixture: Fixture<P>,
     mut source: S,
@@ -82,7 +82,7 @@ const NONE_WORKS: &[Step] = &[Step::Work, Step::Work, Step::Fail(4), Step::Fail(
 
 const A_STUCK_ENTRY: &[Row] = &[(Call::Ready, Came::Polled(0)), (Call::Register, EXISTS)];
 
-fn is_left<S: EventSource + Copy>(
+fn is_left<S: EventSource + Drop>(
     rt: &impl Abort,
     heap: Global,
     mut source: S,

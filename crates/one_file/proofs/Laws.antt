@@ -10,6 +10,7 @@ use Rattle.rules.specs.Calls.{Came, Went}
 use Rattle.rules.specs.Kinds.{LettingGo, Reaches, Registering, Reregistering, Unregistering}
 use Rattle.rules.specs.Meaning.{Drawer, Drawn, Meaning, Nothing}
 use Rattle.rules.proofs.Drawing.{none_drawn, stays_put}
+use Rattle.rules.proofs.Refusals.{handed_behind, none_handed, register_handed, register_refusals, reregister_handed, reregister_refusals, unregister_handed, unregister_refusals}
 use Rattle.rules.proofs.Steps.{let_go_reaches, reaches_same, reaches_then, reaches_weaker, registered_reaches, reregistered_reaches, unregistered_reaches}
 use Rattle.one_file.specs.declared.one_file.OneFile.{OneFile}
 use Rattle.one_file.specs.declared.tickets.Tickets.{Ghosts as TicketsOf}
@@ -32,8 +33,8 @@ module _ {T : Type 0} (tickets : TicketsOf T) (hooks : Bool) (s : OneFile T) whe
 
   leaving : (o : Option T) (w : World) (fate : Fate)
       → LettingGo (means (with_tickets s o)) w (cleared s o w fate).exchanges (means (cleared s o w fate).source) (cleared s o w fate).world
-  leaving None w fate = record { reaches = clear_reaches None w fate; drew = λ k m. elim m [ ]; free = record { held = refl; entered = refl } }
-  leaving (Some t) w fate = record { reaches = clear_reaches (Some t) w fate; drew = λ k m. elim m [ ]; free = record { held = refl; entered = refl } }
+  leaving None w fate = record { reaches = clear_reaches None w fate; drew = λ k m. elim m [ ]; free = record { held = refl; entered = refl; counters = refl } }
+  leaving (Some t) w fate = record { reaches = clear_reaches (Some t) w fate; drew = λ k m. elim m [ ]; free = record { held = refl; entered = refl; counters = refl } }
 
   pub leaves_lawful : (w : World) (xs : List Exchange) (s' : OneFile T) (w' : World) → Leaves s w xs s' w' → LettingGo (means s) w xs (means s') w'
   leaves_lawful w xs s' w' h = subst (λ (x : Went (Unit {0}) (OneFile T)). LettingGo (means s) w x.exchanges (means x.source) x.world) (sym h.1) (leaving s.tickets w h.0)
@@ -61,16 +62,20 @@ module _ {T : Type 0} (tickets : TicketsOf T) (hooks : Bool) (s : OneFile T) whe
         reaches = reaches_weaker Nothing D _ _ w mid before (none_drawn D) (clear_reaches s.tickets w first);
         draws = (law d).forward;
         drew = λ k m. elim m [ ];
-        refusing = λ n c e. record { held = refl; entered = refl };
+        refusing = λ n c e. record { held = refl; entered = refl; counters = refl };
+        refusals = grind (arith, common_steps, f);
+        handed = none_handed before n c (grind (arith, common_steps, f));
       }
       registering (done t) f =
           let c = register_of (line_of bare (tickets.main t)) s.mode mid second in
           record {
-            reaches = reaches_then Nothing D D _ (means bare) _ w mid _ before _ (none_drawn D) (λ k e. e) (clear_reaches s.tickets w first)
+            reaches = reaches_then D _ (means bare) _ w mid _ before _ (clear_reaches s.tickets w first)
                 (registered_reaches (λ r. key_at (after r t None)) [] (keys_in tickets.keys (after c.answer t None)) hooks D (line_of bare (tickets.main t)) s.mode mid second f.file refl (λ n c. refl));
             draws = (law d).forward;
             drew = λ k m. grind (arith, common_steps, f.all k);
             refusing = λ n b e. grind (arith, common_steps);
+            refusals = register_refusals (line_of bare (tickets.main t)) s.mode mid second;
+            handed = handed_behind before c.exchanges c.answer (register_handed (line_of bare (tickets.main t)) s.mode mid second);
           }
 
     pub registers_lawful : (xs : List Exchange) (r : Answer) (s' : OneFile T) (w' : World) (d' : Drawer) → Registers tickets s w d xs r s' w' d'
@@ -87,6 +92,8 @@ module _ {T : Type 0} (tickets : TicketsOf T) (hooks : Bool) (s : OneFile T) whe
         draws = (law d).forward;
         drew = λ k m. inl m;
         accepting = λ e. cc;
+        refusals = grind (arith, common_steps, f);
+        handed = none_handed [] n c (grind (arith, common_steps, f));
       }
       altering old (done t) f =
           let c = reregister_of (line_of s (tickets.main t)) s.mode w fate in
@@ -95,6 +102,8 @@ module _ {T : Type 0} (tickets : TicketsOf T) (hooks : Bool) (s : OneFile T) whe
             draws = (law d).forward;
             drew = λ k m. grind (arith, common_steps, f.all k);
             accepting = λ e k m. grind (arith, common_steps, f.all k);
+            refusals = reregister_refusals (line_of s (tickets.main t)) s.mode w fate;
+            handed = reregister_handed (line_of s (tickets.main t)) s.mode w fate;
           }
 
       reregistering : (o : Option T) → (λ (c : Came (OneFile T)). Reregistering (means (with_tickets s o)) w d c.exchanges c.answer (means c.source) c.world c.drawer)
@@ -104,6 +113,8 @@ module _ {T : Type 0} (tickets : TicketsOf T) (hooks : Bool) (s : OneFile T) whe
         draws = stays_put d;
         drew = λ k m. inl m;
         accepting = λ e. cc;
+        refusals = (refl, refl);
+        handed = none_handed [] 12 None refl;
       }
       reregistering (Some old) = altering old (tickets.draws d).0 (law d).fresh
 
@@ -120,6 +131,8 @@ module _ {T : Type 0} (tickets : TicketsOf T) (hooks : Bool) (s : OneFile T) whe
     reaches = reaches_same _ _ _ w (search rules);
     drew = λ k m. m;
     accepting = λ e. cc;
+    refusals = (refl, refl);
+    handed = none_handed [] 12 None refl;
   }
   unregistering w fate (Some t) =
       let c = unregister_of s.file w fate in
@@ -127,6 +140,8 @@ module _ {T : Type 0} (tickets : TicketsOf T) (hooks : Bool) (s : OneFile T) whe
         reaches = unregistered_reaches (λ r. key_at (left r (Some t))) (tickets.keys t) (keys_in tickets.keys (left c.answer (Some t))) hooks s.file (key_of (tickets.main t)) w fate refl (λ j b i e. cc);
         drew = λ k m. grind (arith, common_steps);
         accepting = λ e. grind (arith, common_steps);
+        refusals = unregister_refusals s.file w fate;
+        handed = unregister_handed s.file w fate;
       }
 
   pub unregisters_lawful : (w : World) (xs : List Exchange) (r : Answer) (s' : OneFile T) (w' : World) → Unregisters s w xs r s' w'

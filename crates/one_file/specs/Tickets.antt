@@ -1,5 +1,5 @@
 -- What a source draws at a registration: the token of its file, and others that it may need.
-use Rattle.std.specs.Prelude.{ℕ, List, [], ◌∷◌}
+use Rattle.std.specs.Prelude.{◌≡◌, ℕ, List, [], ◌∷◌, None}
 use Rattle.token.specs.declared.token.Token.{Token}
 use Rattle.token.specs.Key.{key_of}
 use Rattle.token.specs.Refusal.{Outcome, done, refused}
@@ -11,9 +11,10 @@ pub record Kept (D : ℕ → Type 0) (token : Token) (keys : List ℕ) : Type 0 
   pub file : D (key_of token)
   pub all : (k : ℕ) → In k keys → D k
 
+-- a draw is refused where the sub-ids are spent, and for nothing else
 abbrev pub Fresh : {T : Type 0} → (T → Token) → (T → List ℕ) → (ℕ → Type 0) → Outcome T → Type 0
 Fresh token keys D (done t) = Kept D (token t) (keys t)
-Fresh token keys D (refused n c) = Unit {0}
+Fresh token keys D (refused n c) = (n ≡ 8) × (c ≡ None)
 
 -- the tickets came from the factory `d`, which is `d'` now
 pub record DrawnFrom {T : Type 0} (token : T → Token) (keys : T → List ℕ) (d : Drawer) (o : Outcome T) (d' : Drawer) : Type 0 where

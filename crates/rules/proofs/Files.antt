@@ -18,6 +18,11 @@ among_or_not f (x ∷ o) = grind (arith, common_steps, among_or_not f o)
 pub keeps_same : (D : ℕ → Type 0) (h : List Held) (o : List ℕ) (es es' : List Entry) → es' ≡ es → Keeps D h o es h o es'
 keeps_same D h o es es' eq sound = grind (arith, common_steps, λ (f : ℕ). among_or_not f o)
 
+pub keeps_weaker : (D F : ℕ → Type 0) (h h' : List Held) (o o' : List ℕ) (es es' : List Entry) → ((k : ℕ) → D k → F k) → Keeps D h o es h' o' es' → Keeps F h o es h' o' es'
+keeps_weaker D F h h' o o' es es' df one sound =
+    let r : Files D h o es h' o' es' = one sound in
+    grind (arith, common_steps, df)
+
 pub keeps_then : (D E F : ℕ → Type 0) (h h' h'' : List Held) (o o' o'' : List ℕ) (es es' es'' : List Entry)
     → ((k : ℕ) → D k → F k) → ((k : ℕ) → E k → F k)
     → Keeps D h o es h' o' es' → Keeps E h' o' es' h'' o'' es'' → Keeps F h o es h'' o'' es''

@@ -10,13 +10,13 @@ ghost use Rattle.std.proofs.Common.{rules};
 
 use crate::handler::TimerHandler;
 use alarm::Alarm;
-use kinds::{Errand, Errands, EventSource, Reply};
+use kinds::{Errand, Errands, EventIterator, EventSource, Reply, Spare};
 use poller::{Poller, Readiness};
 use post_action::PostAction;
-use sys::{Clock, Poll, PollEvent};
+use sys::{Clock, Poll};
 use token::{Error, Token, TokenFactory};
 
-#[derive(Clone, Copy)]
+#[derive(Drop)]
 pub struct Timer<H> {
     pub(crate) alarm: Alarm,
     pub(crate) handler: H,
@@ -34,7 +34,8 @@ impl<H: TimerHandler> Timer<H> {
     }
 }
 
-impl<H: TimerHandler + Copy> EventSource for Timer<H> {
+// A handler cannot be copied here, so each call of it is made on the one that the timer has.
+impl<H: TimerHandler + Drop> EventSource for Timer<H> {
     ghost means = { λ s. meaning s.alarm };
 
     ghost registers = { λ s w d xs r s' w' d'. (came xs r s'.alarm w' d' ≡ register_by s.alarm s.alarm.deadline w d) × (s'.handler ≡ s.handler) };
@@ -52,6 +53,8 @@ impl<H: TimerHandler + Copy> EventSource for Timer<H> {
     ghost sleeps = { λ s r s'. (r ≡ done None) × (s' ≡ s) };
 
     ghost sees = { λ s vs s'. s' ≡ s };
+
+    ghost ends = { λ s. Unit {0} };
 
     ghost registering = { λ s w d xs r s' w' d' h. registers_lawful s.alarm w d (came xs r s'.alarm w' d') h.0 };
 
@@ -97,10 +100,6 @@ impl<H: TimerHandler + Copy> EventSource for Timer<H> {
 
     fn end(self) {}
 
-    fn copy(&self) -> Self {
-        *self
-    }
-
     // Rings, and enters the next deadline under the counter that it has.
     fn process_events<P: Poller, C: Clock>(
         &mut self,
@@ -127,5 +126,14 @@ impl<H: TimerHandler + Copy> EventSource for Timer<H> {
         Ok(None)
     }
 
-    fn before_handle_events(&mut self, _registration: Token, _events: &[PollEvent]) {}
+    fn before_handle_events(&mut self, _events: EventIterator<'_>) {}
+}
+
+impl<H: TimerHandler + Copy> Spare for Timer<H> {
+    fn copy(&self) -> Self {
+        Timer {
+            alarm: self.alarm,
+            handler: self.handler,
+        }
+    }
 }

@@ -5,10 +5,10 @@ ghost use Rattle.token.specs.Refusal.{done};
 ghost use Rattle.wake_once.specs.Calls.{meaning, process_by, register_by, unregister_by, wanted};
 ghost use Rattle.std.proofs.Common.{rules};
 
-use kinds::{Errand, Errands, EventSource, Reply};
+use kinds::{Errand, Errands, EventIterator, EventSource, Reply, Spare};
 use poller::{Poller, Readiness};
 use post_action::PostAction;
-use sys::{Clock, Poll, PollEvent};
+use sys::{Clock, Poll};
 use token::{Error, Token, TokenFactory};
 
 // The token of a registration, and whether its event is still to come.
@@ -53,6 +53,8 @@ impl EventSource for WakeOnce {
     ghost sleeps = { λ s r s'. (r ≡ done (wanted s.registration)) × (s' ≡ s) };
 
     ghost sees = { λ s vs s'. s' ≡ s };
+
+    ghost ends = { λ s. Unit {0} };
 
     ghost registering = { Prim.search rules };
 
@@ -101,10 +103,6 @@ impl EventSource for WakeOnce {
 
     fn end(self) {}
 
-    fn copy(&self) -> Self {
-        *self
-    }
-
     // An event under another token is not its own.
     fn process_events<P: Poller, C: Clock>(
         &mut self,
@@ -135,5 +133,11 @@ impl EventSource for WakeOnce {
         }
     }
 
-    fn before_handle_events(&mut self, _registration: Token, _events: &[PollEvent]) {}
+    fn before_handle_events(&mut self, _events: EventIterator<'_>) {}
+}
+
+impl Spare for WakeOnce {
+    fn copy(&self) -> Self {
+        *self
+    }
 }
