@@ -27,11 +27,11 @@ version_ok kind h l l' c s xs (Ok t) k = insert_version kind h l c s xs t l' k
 version_ok kind h l l' c s xs (Err e) k = tt
 
 -- what the order says of the register, for a loop that handles no source
-pub orderly : {P C S : Type 0} (poller : PollerOf P) (kind : EventSourceOf S) (h : List ℕ) (l : LoopHandle P C S) → InOrder kind None h (loop_over poller l) → Orderly poller kind h l
-orderly poller kind h l o = (o, shared _ _ ((one_calm kind l.sources o.few (world_of poller l.registry.poll)).0 o.register))
+pub orderly : {P C S : Type 0} (poller : PollerOf P) (kind : EventSourceOf S) (h : List ℕ) (v : List Token) (l : LoopHandle P C S) → InOrder kind None h v (loop_over poller l) → Orderly poller kind h v l
+orderly poller kind h v l o = (o, shared _ _ ((one_calm kind l.sources o.few (world_of poller l.registry.poll)).0 o.register))
 
 -- a loop that begins over a poller with no entry is in order
 pub new_orderly : {P C S : Type 0} (poller : PollerOf P) (kind : EventSourceOf S) (l : LoopHandle P C S) (es : List Entry) (most : ℕ) (level : Bool)
-    → loop_over poller l ≡ new_loop es most level → es ≡ [] → Orderly poller kind [] l
+    → loop_over poller l ≡ new_loop es most level → es ≡ [] → Orderly poller kind [] [] l
 new_orderly poller kind l es most level is none =
-    orderly poller kind [] l (rw (is, none) (new_in_order kind most level))
+    orderly poller kind [] [] l (rw (is, none) (new_in_order kind most level))

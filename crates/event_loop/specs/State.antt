@@ -1,11 +1,14 @@
 -- What a loop begins with, and what a call leaves alone.
-use Rattle.std.specs.Prelude.{◌≡◌, List, []}
+use Rattle.std.specs.Prelude.{◌≡◌, ℕ, List, []}
 use Rattle.poller.specs.declared.poller.Poller.{Ghosts as PollerOf}
 use Rattle.poller.specs.Meaning.{Answer}
 use Rattle.sys.specs.declared.clock.Clock.{Ghosts as ClockOf}
 use Rattle.sys.specs.declared.event.PollEvent.{PollEvent}
-use Rattle.sys.specs.World.{Between, Exchange, World}
-use Rattle.model.specs.Dispatch.{Dispatched, dispatched}
+use Rattle.sys.specs.World.{Between, Exchange, World, world_of}
+use Rattle.kinds.specs.declared.source.EventSource.{Ghosts as EventSourceOf}
+use Rattle.model.specs.Dispatch.{Dispatched}
+use Rattle.model.specs.Others.{LeavesOthers}
+use Rattle.model.specs.Register.{owners}
 use Rattle.model.specs.State.{Loop}
 use Rattle.loop_handle.specs.State.{loop_of}
 use Rattle.loop_handle.specs.declared.handle.LoopHandle.{LoopHandle}
@@ -20,6 +23,11 @@ handle_of l = l.inner.handle
 abbrev pub polling_of : {P C S : Type 0} → EventLoop P C S → State P C
 polling_of l = state_of (handle_of l).registry.poll
 
+-- the call was on the source of slot i, and left the timers, entries and level lines of all others as they were
+abbrev pub LeavesAllBut : {P C S : Type 0} → PollerOf P → EventSourceOf S → ℕ → EventLoop P C S → EventLoop P C S → Type 0
+LeavesAllBut poller kind i l l' =
+    LeavesOthers i (owners kind (handle_of l).sources) (owners kind (handle_of l').sources) (world_of poller (handle_of l).registry.poll) (world_of poller (handle_of l').registry.poll)
+
 -- the hooks' events, those of the last wait, the sheet and the errands are as they were
 pub record Aside {P C S : Type 0} (l l' : EventLoop P C S) : Type 0 where
   pub synthetic : l'.synthetic_events ≡ l.synthetic_events
@@ -29,7 +37,7 @@ pub record Aside {P C S : Type 0} (l l' : EventLoop P C S) : Type 0 where
 
 -- what a dispatch leaves, with its answer
 abbrev pub left_by : {P C S : Type 0} → EventLoop P C S → Answer → World → Dispatched S
-left_by l r w = dispatched r (loop_of (handle_of l) w) l.synthetic_events.items.items l.sheet.items.items
+left_by l r w = record { answer = r; loop = loop_of (handle_of l) w; errands = l.inner.errands; waiting = l.synthetic_events.items.items; events = l.events.items.items; sheet = l.sheet.items.items }
 
 -- from one loop to the next the poller and the clock were asked this, and a dispatch came to this by the meaning alone
 abbrev pub Dispatching : {P C S : Type 0} → PollerOf P → ClockOf C → EventLoop P C S → Answer → EventLoop P C S → (Loop S → List PollEvent → List Exchange → Dispatched S → Type 0) → Type 0

@@ -1,18 +1,19 @@
 // The making and the end of a loop, and a dispatch: hooks, a wait, and a turn for each event.
-ghost use Rattle.std.specs.Prelude.{◌≡◌, ℕ, ◌⊎◌, List, [], IfOk, reverse};
-ghost use Rattle.std.specs.Option.{option_map};
+ghost use Rattle.std.specs.Prelude.{◌≡◌, ℕ, ◌≤◌, ◌⊎◌, List, [], IfOk, length, reverse};
 ghost use Rattle.event_loop.specs.End.{vacates, vacates_all};
 ghost use Rattle.event_loop.specs.State.{Aside, Dispatching, Idle, handle_of, polling_of};
-ghost use Rattle.loop_handle.specs.State.{Orderly, loop_over};
+ghost use Rattle.loop_handle.specs.State.{Orderly, loop_of, loop_over};
 ghost use Rattle.model.specs.Course.{Takes};
-ghost use Rattle.model.specs.Dispatch.{dispatch_of, hands_out, timeout_by, woken};
+ghost use Rattle.model.specs.Dispatch.{dispatch_of, handled, hands_out, timeout_by, waits_by};
 ghost use Rattle.model.specs.Laws.{NoneLost, Stopped, Woke};
 ghost use Rattle.model.specs.State.{new_loop};
 ghost use Rattle.sys.specs.World.{Between};
 ghost use Rattle.token.specs.Refusal.{done, outcome};
+ghost use Rattle.token.specs.declared.token.Token.{Token};
+ghost use Rattle.turns.specs.Turns.{turns_as};
 
+use crate::remaining::remaining;
 use crate::state::EventLoop;
-use crate::wait::wait;
 use bounded::Bounded;
 use kinds::{Errands, EventSource};
 use list::{Place, Slot, SourceList};
@@ -33,7 +34,7 @@ impl<P: Poller, C: Clock, S: EventSource> EventLoop<P, C, S> {
         ensures is { IfOk result (λ l. loop_over P.Poller (handle_of l) ≡ new_loop (P.Poller.entries poller) (P.Poller.most poller) P.Poller.LEVEL) }
         ensures poll { IfOk result (λ l. ((polling_of l).poller ≡ poller) × ((polling_of l).clock ≡ clock)) }
         ensures idle { IfOk result Idle }
-        ensures order { P.Poller.entries poller ≡ [] → IfOk result (λ l. Orderly P.Poller S.EventSource [] (handle_of l)) }
+        ensures order { P.Poller.entries poller ≡ [] → IfOk result (λ l. Orderly P.Poller S.EventSource [] [] (handle_of l)) }
     {
         let synthetic_events = Bounded::new(heap)?;
         let events = PollEvents::new(heap)?;
@@ -79,17 +80,16 @@ impl<P: Poller, C: Clock, S: EventSource> EventLoop<P, C, S> {
         ensures is { E.Environment.arranges environment.old (polling_of self.old).poller (polling_of self.old).clock environment.new (polling_of self.new).poller (polling_of self.new).clock }
         ensures same { loop_over P.Poller (handle_of self.new) ≡ loop_over P.Poller (handle_of self.old) }
         ensures aside { Aside self.old self.new }
-        ensures order { (h : List ℕ) → Orderly P.Poller S.EventSource h (handle_of self.old) → Orderly P.Poller S.EventSource h (handle_of self.new) }
+        ensures order { (h : List ℕ) (v : List Token) → Orderly P.Poller S.EventSource h v (handle_of self.old) → Orderly P.Poller S.EventSource h v (handle_of self.new) }
     {
         self.inner.handle.registry.poll.arrange(environment);
     }
 
     // Hands the events of one wait to their sources. The sheet says what became of each.
     pub fn dispatch(&mut self, timeout: Option<u64>) -> Result<(), Error>
-        ensures is { Dispatching P.Poller C.Clock self.old (outcome result) self.new (λ l q xs o. Takes S.EventSource (dispatch_of S.EventSource timeout l q) xs o) }
-        ensures order { (h : List ℕ) → Orderly P.Poller S.EventSource h (handle_of self.old) → Orderly P.Poller S.EventSource h (handle_of self.new) }
         ensures lost { outcome result ≡ done tt → NoneLost self.new.sheet.items.items }
-        ensures lists { Dispatching P.Poller C.Clock self.old (outcome result) self.new (λ l q xs o. Stopped q xs o ⊎ Woke timeout l.world q xs o) }
+        ensures order { (h : List ℕ) (v : List Token) → Orderly P.Poller S.EventSource h v (handle_of self.old) → Orderly P.Poller S.EventSource h v (handle_of self.new) }
+        ensures is { Dispatching P.Poller C.Clock self.old (outcome result) self.new (λ l q xs o. Takes S.EventSource (dispatch_of S.EventSource timeout l q) xs o × (Stopped q xs o ⊎ Woke timeout l.world q xs o)) }
     {
         self.dispatch_events(timeout)
     }
@@ -97,57 +97,72 @@ impl<P: Poller, C: Clock, S: EventSource> EventLoop<P, C, S> {
     fn dispatch_events(&mut self, timeout: Option<u64>) -> Result<(), Error>
         ensures { Dispatching P.Poller C.Clock self.old (outcome result) self.new (λ l q xs o. Takes S.EventSource (dispatch_of S.EventSource timeout l q) xs o) }
     {
+        self.sheet.items.clear();
+        self.events.items.clear();
+        self.inner.errands.clear();
+        let start = self.inner.handle.registry.poll.now();
+        self.inner.before_sleep(&mut self.synthetic_events)?;
+        self.wait_and_hand_out(timeout, start)
+    }
+
+    // Waits, again after an interruption, at most 63 times, and hands out what was reported.
+    fn wait_and_hand_out(&mut self, timeout: Option<u64>, start: u64) -> Result<(), Error>
+        requires sheet { self.old.sheet.items.items ≡ [] }
+        requires errands { self.old.inner.errands ≡ [] }
+        ensures { Dispatching P.Poller C.Clock self.old (outcome result) self.new (λ l q xs o. Takes S.EventSource (waits_by S.EventSource (done tt) timeout start l q) xs o) }
+    {
         let EventLoop {
             inner,
             synthetic_events,
             events,
             sheet,
         } = self;
-        sheet.items.clear();
-        let start = inner.handle.registry.poll.now();
-        inner.before_sleep(synthetic_events)?;
+        let poll = &mut inner.handle.registry.poll;
         let timeout = timeout_with(synthetic_events, timeout);
-        let answer = wait(&mut inner.handle.registry.poll, timeout, start, events);
-        self.after_wait(answer)
-    }
-
-    // Where the wait failed its events are lost.
-    fn after_wait(&mut self, answer: Option<Result<(), Error>>) -> Result<(), Error>
-        requires { self.old.sheet.items.items ≡ [] }
-        ensures { Dispatching P.Poller C.Clock self.old (outcome result) self.new (λ l q xs o. Takes S.EventSource (woken S.EventSource (option_map outcome answer) q self.old.events.items.items l) xs o) }
-    {
-        match answer {
-            None => Ok(()),
-            Some(Ok(())) => self.handle_events(),
-            Some(Err(error)) => {
-                let EventLoop { events, sheet, .. } = self;
-                lose(events.items.as_slice(), sheet);
-                Err(error)
+        let mut left = timeout;
+        let mut retries = 63u8;
+        let reported = loop {
+            match poll.poll(left, events) {
+                Ok(()) => break events.items.as_slice(),
+                Err(error) if retries == 0 || error != Error::Interrupted => {
+                    lose(events.items.as_slice(), sheet);
+                    return Err(error);
+                }
+                Err(_) => retries -= 1,
             }
-        }
+            if let Some(given) = timeout {
+                match remaining(given, start, poll.now()) {
+                    Some(time) => left = Some(time),
+                    None => return Ok(()),
+                }
+            }
+        };
+        hand_out(inner, synthetic_events, reported, sheet)
     }
+}
 
-    // Shows the hooks what the wait brought. Then a turn for each event: the hooks' first, then the
-    // poller's and the timers'.
-    fn handle_events(&mut self) -> Result<(), Error>
-        requires { self.old.sheet.items.items ≡ [] }
-        ensures { Dispatching P.Poller C.Clock self.old (outcome result) self.new (λ l q xs o. Takes S.EventSource (hands_out S.EventSource q self.old.events.items.items l) xs o) }
-    {
-        let EventLoop {
-            inner,
-            synthetic_events,
-            events,
-            sheet,
-        } = self;
-        inner.before_handle_events(events.items.as_slice());
-        let answer = inner.turns(synthetic_events.items.as_slice(), sheet);
-        synthetic_events.items.clear();
-        if let Err(error) = answer {
-            lose(events.items.as_slice(), sheet);
-            return Err(error);
-        }
-        inner.turns(events.items.as_slice(), sheet)
+// Shows the hooks what was reported. Then a turn for each event: the hooks' first, then the
+// poller's and the timers'.
+fn hand_out<P: Poller, C: Clock, S: EventSource>(
+    inner: &mut LoopInner<P, C, S>,
+    synthetic_events: &mut Bounded<PollEvent, 128>,
+    reported: &[PollEvent],
+    sheet: &mut Sheet,
+) -> Result<(), Error>
+    requires sheet { sheet.old.items.items ≡ [] }
+    requires errands { inner.old.errands ≡ [] }
+    requires room { length reported.now ≤ 512 }
+    ensures is { Between P.Poller C.Clock inner.old.handle.registry.poll inner.new.handle.registry.poll (λ w xs w'. Takes S.EventSource (hands_out S.EventSource synthetic_events.old.items.items reported.now (loop_of inner.old.handle w)) xs (handled reported.now (turns_as (outcome result) inner.new w' sheet.new.items.items))) }
+    ensures none { synthetic_events.new.items.items ≡ [] }
+{
+    inner.before_handle_events(reported);
+    let answer = inner.turns(synthetic_events.items.as_slice(), sheet);
+    synthetic_events.items.clear();
+    if let Err(error) = answer {
+        lose(reported, sheet);
+        return Err(error);
     }
+    inner.turns(reported, sheet)
 }
 
 // While events of the hooks wait, a wait takes no time.

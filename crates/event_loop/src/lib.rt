@@ -5,7 +5,6 @@ mod calls;
 mod dispatch;
 mod remaining;
 mod state;
-mod wait;
 
 pub use loop_handle::InsertError;
 pub use sheet::{Line, Sheet, Verdict};

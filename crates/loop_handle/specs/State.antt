@@ -36,8 +36,10 @@ inserted_of (Err e) = back (refused (number_of e.error) (code_of e.error)) e.ins
 abbrev pub Performed : {P C S A : Type 0} → PollerOf P → ClockOf C → EventSourceOf S → (Loop S → Course S (A × Loop S)) → LoopHandle P C S → A → LoopHandle P C S → Type 0
 Performed poller clock kind call l r l' = Between poller clock l.registry.poll l'.registry.poll (λ w xs w'. Takes kind (call (loop_of l w)) xs (r, loop_of l' w'))
 
--- The loop is in order, `h` being the slots that it gave out so far: its versions count them, its lifecycle entries fit, and
--- the poller and the sources share one register, which says that each file that a source holds stands in the poller under a
--- key of its token, and that any other entry is stuck.
-abbrev pub Orderly : {P C S : Type 0} → PollerOf P → EventSourceOf S → List ℕ → LoopHandle P C S → Type 0
-Orderly poller kind h l = InOrder kind None h (loop_over poller l) × Shared (owners kind l.sources) (world_of poller l.registry.poll)
+-- The loop is in order, `h` being the slots that it gave out so far and `v` the tokens of the enables that were refused: its
+-- versions count them, its lifecycle entries fit, each enabled source that wants hooks has one, and one that is not enabled only
+-- by a refused enable; each timer's counter was given out, and none is two sources' own; and the poller and the sources share one
+-- register, which says that each file that a source holds stands in the poller under a key of its token, and that any other entry
+-- is stuck.
+abbrev pub Orderly : {P C S : Type 0} → PollerOf P → EventSourceOf S → List ℕ → List Token → LoopHandle P C S → Type 0
+Orderly poller kind h v l = InOrder kind None h v (loop_over poller l) × Shared (owners kind l.sources) (world_of poller l.registry.poll)

@@ -51,16 +51,16 @@ module _ {S : Type 0} (kind : EventSourceOf S) where
 
   -- a source that was unregistered, or let go where that was refused
   pub released : (ts : List Token) (w w' : World) (s s' : S) (t : Token) (xs : List Exchange) (r : Answer) (o : Released) → kind.unregisters s w xs r s' w' → r ≡ done tt
-      → record { lifecycle = left t ts; world = w' } ≡ o → Takes kind (releases kind ts w s t) xs o
-  released ts w w' s s' t xs r o h is q =
-      let run : Takes kind (released_by kind (left t ts) r s' w') [] o = rw is (refl, sym q) in
+      → kind.ends s' → record { lifecycle = left t ts; world = w' } ≡ o → Takes kind (releases kind ts w s t) xs o
+  released ts w w' s s' t xs r o h is over q =
+      let run : Takes kind (released_by kind (left t ts) r s' w') [] o = rw is (over, (refl, sym q)) in
       (went xs r s' w', h, [], sym (append-nil xs), run)
 
   pub let_go : (ts : List Token) (w w' w'' : World) (s s' s'' : S) (t : Token) (xs ys : List Exchange) (r : Answer) (o : Released) → kind.unregisters s w xs r s' w' → (r ≡ done tt → ⊥)
-      → kind.leaves s' w' ys s'' w'' → record { lifecycle = left t ts; world = w'' } ≡ o → Takes kind (releases kind ts w s t) (xs ++ ys) o
-  let_go ts w w' w'' s s' s'' t xs ys (done u) o h not k q = absurd (not refl)
-  let_go ts w w' w'' s s' s'' t xs ys (refused n c) o h not k q =
-      (went xs (refused n c) s' w', h, ys, refl, (went ys (done tt) s'' w'', k, [], sym (append-nil ys), (refl, sym q)))
+      → kind.leaves s' w' ys s'' w'' → kind.ends s'' → record { lifecycle = left t ts; world = w'' } ≡ o → Takes kind (releases kind ts w s t) (xs ++ ys) o
+  let_go ts w w' w'' s s' s'' t xs ys (done u) o h not k over q = absurd (not refl)
+  let_go ts w w' w'' s s' s'' t xs ys (refused n c) o h not k over q =
+      (went xs (refused n c) s' w', h, ys, refl, (went ys (done tt) s'' w'', k, [], sym (append-nil ys), (over, (refl, sym q))))
 
   pub inserts : (l : Loop S) (s : S) (slots : List (Slot S)) (t : Token) (xs : List Exchange) (a : Acted S) (o : Inserted S × Loop S) → vacant_of l.slots ≡ (Some t, slots)
       → Takes kind (admits kind l.lifecycle l.world s t) xs a → inserted l slots t a ≡ o → Takes kind (insert_of kind l s) xs o

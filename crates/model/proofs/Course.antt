@@ -3,7 +3,7 @@ use Rattle.std.proofs.Common.{◌≡◌, List, [], ◌∷◌, ◌++◌, refl, ar
 use Rattle.std.proofs.lemmas.Grind.{common_steps}
 use Rattle.sys.specs.World.{Exchange, read}
 use Rattle.kinds.specs.declared.source.EventSource.{Ghosts as EventSourceOf}
-use Rattle.model.specs.Course.{Course, ends, registers, reregisters, unregisters, leaves, processes, sleeps, sees, reads, waits, and_then, Takes}
+use Rattle.model.specs.Course.{Course, ends, registers, reregisters, unregisters, leaves, processes, sleeps, sees, finishes, reads, waits, and_then, Takes}
 use Rattle.std.proofs.lemmas.List.{append-nil}
 
 module _ {S A B : Type 0} (kind : EventSourceOf S) (f : A → Course S B) (ys : List Exchange) (o : B) where
@@ -16,6 +16,7 @@ module _ {S A B : Type 0} (kind : EventSourceOf S) (f : A → Course S B) (ys : 
   takes_then (processes s w x t g) xs a h k = (h.0, h.1, h.2 ++ ys, grind (arith, common_steps), takes_then (g h.0) h.2 a h.4 k)
   takes_then (sleeps s g) xs a h k = (h.0, h.1, takes_then (g h.0) xs a h.2 k)
   takes_then (sees s es g) xs a h k = (h.0, h.1, takes_then (g h.0) xs a h.2 k)
+  takes_then (finishes s g) xs a h k = (h.0, takes_then g xs a h.1 k)
   takes_then (reads g) xs a h k = (h.0, h.1 ++ ys, grind (arith, common_steps), takes_then (g h.0) h.1 a h.3 k)
   takes_then (waits t n w g) xs a h k = (h.0, h.1, h.2 ++ ys, grind (arith, common_steps), takes_then (g h.0) h.2 a h.4 k)
 
@@ -37,6 +38,7 @@ module _ {S A B : Type 0} (kind : EventSourceOf S) (f : A → B) (o : B) where
   taken_made (processes s w x t g) xs h = let r = taken_made (g h.0) h.2 h.4 in (r.0, (h.0, h.1, h.2, h.3, r.1), r.2)
   taken_made (sleeps s g) xs h = let r = taken_made (g h.0) xs h.2 in (r.0, (h.0, h.1, r.1), r.2)
   taken_made (sees s es g) xs h = let r = taken_made (g h.0) xs h.2 in (r.0, (h.0, h.1, r.1), r.2)
+  taken_made (finishes s g) xs h = let r = taken_made g xs h.1 in (r.0, (h.0, r.1), r.2)
   taken_made (reads g) xs h = let r = taken_made (g h.0) h.1 h.3 in (r.0, (h.0, h.1, h.2, r.1), r.2)
   taken_made (waits t n w g) xs h = let r = taken_made (g h.0) h.2 h.4 in (r.0, (h.0, h.1, h.2, h.3, r.1), r.2)
 
@@ -72,6 +74,7 @@ module _ {S A B : Type 0} (kind : EventSourceOf S) (f : A → Course S B) (o : B
       record { outcome = r.outcome; first = h.0.exchanges ++ r.first; second = r.second; asked = behind (g h.0) h.0.exchanges xs h.2 h.3 r; came = (h.0, h.1, r.first, refl, r.came); rest = r.rest }
   taken_then (sleeps s g) xs h = let r = taken_then (g h.0) xs h.2 in record { outcome = r.outcome; first = r.first; second = r.second; asked = r.asked; came = (h.0, h.1, r.came); rest = r.rest }
   taken_then (sees s es g) xs h = let r = taken_then (g h.0) xs h.2 in record { outcome = r.outcome; first = r.first; second = r.second; asked = r.asked; came = (h.0, h.1, r.came); rest = r.rest }
+  taken_then (finishes s g) xs h = let r = taken_then g xs h.1 in record { outcome = r.outcome; first = r.first; second = r.second; asked = r.asked; came = (h.0, r.came); rest = r.rest }
   taken_then (reads g) xs h =
       let r = taken_then (g h.0) h.1 h.3 in
       record { outcome = r.outcome; first = read h.0 ∷ r.first; second = r.second; asked = behind (g h.0) (read h.0 ∷ []) xs h.1 h.2 r; came = (h.0, r.first, refl, r.came); rest = r.rest }

@@ -16,7 +16,7 @@ use Rattle.model.specs.Register.{KeyOf, OneRegister, Owner, changed, holders, in
 use Rattle.model.proofs.Slots.{GivenOut, given_out, room}
 use Rattle.model.proofs.Register.{changed_here, changed_twice, one_gone, one_joined, one_moved, one_processed, one_refused, one_same, one_step, owners_given, owners_placed, owners_vacant}
 
-no_source : {S : Type 0} (kind : EventSourceOf S) (t : Token) (p : Place S) → (Filled p → ⊥) → owner_in kind t p ≡ None
+pub no_source : {S : Type 0} (kind : EventSourceOf S) (t : Token) (p : Place S) → (Filled p → ⊥) → owner_in kind t p ≡ None
 no_source kind t Empty n = refl
 no_source kind t (Occupied s) n = elim (n tt) [ ]
 no_source kind t Handled n = refl
@@ -28,8 +28,12 @@ module _ {S : Type 0} (kind : EventSourceOf S) (xs : List (Slot S)) (few : lengt
   pub holders_placed : (hand : Option Owner) (i : ℕ) (p : Place S) → i < length xs → (j : ℕ) → holders kind (placed xs i p) hand j ≡ changed (holders kind xs hand) i (owner_in kind (token_in xs i) p) j
   holders_placed hand i p l j = grind (arith, common_steps, owners_placed kind xs i p l j)
 
-  holders_given : (hand : Option Owner) (t : Token) (ys : List (Slot S)) → vacant_of xs ≡ (Some t, ys) → (j : ℕ) → holders kind ys hand j ≡ holders kind xs hand j
+  pub holders_given : (hand : Option Owner) (t : Token) (ys : List (Slot S)) → vacant_of xs ≡ (Some t, ys) → (j : ℕ) → holders kind ys hand j ≡ holders kind xs hand j
   holders_given hand t ys g j = grind (arith, common_steps, owners_given kind xs t ys g j)
+
+  -- no source stands in a slot that is given out
+  pub vacant_none : (hand : Option Owner) (t : Token) (ys : List (Slot S)) → vacant_of xs ≡ (Some t, ys) → holders kind xs hand t.id ≡ None
+  vacant_none hand t ys g = grind (arith, common_steps, owners_vacant kind xs t ys g, (given_out xs t ys g).within, room xs (Some t) ys few g)
 
   holders_calm : (j : ℕ) → holders kind xs None j ≡ owners kind xs j
   holders_calm j = grind (arith, common_steps, get_or_past xs in_hand unused)
@@ -108,18 +112,15 @@ module _ {S : Type 0} (kind : EventSourceOf S) (xs : List (Slot S)) (few : lengt
     abbrev newcomer : Owner
     newcomer = owner kind (token_in ys t.id) s
 
-    vacant : holders kind xs hand t.id ≡ None
-    vacant = grind (arith, common_steps, owners_vacant kind xs t ys g, out.within, room xs (Some t) ys few g)
-
     drew_its : (k : ℕ) → D k → KeyOf (token_in ys t.id) k
     drew_its k d = grind (arith, common_steps, drew k d, out.here)
 
     -- it is accepted, and stands in its slot
     pub one_inserted : OneRegister (holders kind (placed ys t.id (Occupied s')) hand) w'
     one_inserted = one_same _ _ w' (λ j. grind (arith, common_steps, owners_placed kind ys t.id (Occupied s') out.within j, owners_given kind xs t ys g j, out.within, room xs (Some t) ys few g))
-        (one_joined (holders kind xs hand) t.id D w w' es newcomer (kind.means s') vacant free drew_its r one)
+        (one_joined (holders kind xs hand) t.id D w w' es newcomer (kind.means s') (vacant_none hand t ys g) free drew_its r one)
 
     -- it is refused, and handed back
     pub one_insert_refused : Free (kind.means s') → OneRegister (holders kind ys hand) w'
     one_insert_refused gone = one_same _ _ w' (holders_given hand t ys g)
-        (one_refused (holders kind xs hand) t.id D w w' es newcomer (kind.means s') vacant free drew_its r one gone)
+        (one_refused (holders kind xs hand) t.id D w w' es newcomer (kind.means s') (vacant_none hand t ys g) free drew_its r one gone)

@@ -18,9 +18,9 @@ use Rattle.model.specs.Dispatch.{Hooked, asked_at, asks_hooks, hooked_by, queued
 use Rattle.model.proofs.Kept.{Lawful}
 use Rattle.model.proofs.Rest.{AtRest, fits_there, hooked_rests}
 
-module _ {S : Type 0} (kind : EventSourceOf S) (laws : Lawful kind) (h : List ℕ) (ts : List Token) (w : World) where
+module _ {S : Type 0} (kind : EventSourceOf S) (laws : Lawful kind) (h : List ℕ) (v : List Token) (ts : List Token) (w : World) where
   abbrev Rests : List (Slot S) → Type 0
-  Rests xs = AtRest kind h xs ts w
+  Rests xs = AtRest kind h v xs ts w
 
   -- BEFORE A WAIT
   module _ (ys : List Exchange) (o : Hooked S) (on : List (Slot S) → List PollEvent → Course S (Hooked S))
@@ -35,7 +35,7 @@ module _ {S : Type 0} (kind : EventSourceOf S) (laws : Lawful kind) (h : List �
     asked_rests t f Handled xs q r e is k = rest xs q r k
     asked_rests t f (Occupied s) xs q r e is k =
         let at = fits_there xs t f s e is in
-        queued_rests k.0.answer (placed xs t.id (Occupied k.0.source)) q (hooked_rests kind h xs ts w r t s at.0 at.1 k.0.source (laws.sleeping s k.0.answer k.0.source k.1).0) k.2
+        queued_rests k.0.answer (placed xs t.id (Occupied k.0.source)) q (hooked_rests kind h v xs ts w r t s at.0 at.1 k.0.source (laws.sleeping s k.0.answer k.0.source k.1).0) k.2
 
   pub hooks_asked : (us : List Token) (xs : List (Slot S)) (q : List PollEvent) (ys : List Exchange) (o : Hooked S) → Rests xs → Takes kind (asks_hooks us xs q) ys o → Rests o.slots
   hooks_asked [] xs q ys o r k = rw k.1 r
@@ -53,7 +53,7 @@ module _ {S : Type 0} (kind : EventSourceOf S) (laws : Lawful kind) (h : List �
   shown_rests ys o on rest t es f Handled xs r e is k = rest xs r k
   shown_rests ys o on rest t es f (Occupied s) xs r e is k =
       let at = fits_there xs t f s e is in
-      rest (placed xs t.id (Occupied k.0)) (hooked_rests kind h xs ts w r t s at.0 at.1 k.0 (laws.seeing s es k.0 k.1)) k.2
+      rest (placed xs t.id (Occupied k.0)) (hooked_rests kind h v xs ts w r t s at.0 at.1 k.0 (laws.seeing s es k.0 k.1)) k.2
 
   pub hooks_shown : (es : List PollEvent) (us : List Token) (xs : List (Slot S)) (ys : List Exchange) (o : List (Slot S)) → Rests xs → Takes kind (shows_hooks es us xs) ys o → Rests o
   hooks_shown es [] xs ys o r k = rw k.1 r

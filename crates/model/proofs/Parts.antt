@@ -20,10 +20,8 @@ use Rattle.kinds.specs.Events.{of_source}
 use Rattle.kinds.specs.declared.errand.Errand.{Errand}
 use Rattle.kinds.specs.declared.source.EventSource.{Ghosts as EventSourceOf}
 use Rattle.model.specs.Calls.{Acted, renews, standing_at, withdraws}
-use Rattle.sheet.specs.Printed.{line_of}
-use Rattle.sheet.specs.declared.Line.{Line}
 use Rattle.model.specs.Course.{Course, Takes, and_then, ends}
-use Rattle.model.specs.Dispatch.{Dispatched, Hooked, InHand, Settled, Turn, Turns, action_of, acts, asks_hooks, dismisses, dispatch_of, dispatched, fate_of, goes_on, hands_out, held, lost, queued, second, settles, shows_hooks, timeout_by, turn_by, turn_of, turned, turns, turns_of, waits_by, woken}
+use Rattle.model.specs.Dispatch.{Dispatched, Hooked, InHand, Settled, Turn, Turns, action_of, acts, asks_hooks, dismisses, dispatch_of, fate_of, goes_on, handled, hands_out, held, no_turns, queued, settles, shows_hooks, timeout_by, turn_by, turn_of, turned, turns_of, waits_by, with_lost, with_turn, woken}
 use Rattle.model.specs.Retries.{Again, Retries, interrupted}
 use Rattle.model.specs.State.{Loop}
 use Rattle.model.proofs.Course.{takes_made, takes_then}
@@ -39,13 +37,13 @@ module _ {S : Type 0} (kind : EventSourceOf S) where
 
   -- it left
   module _ (t : Token) (xs : List (Slot S)) (ts : List Token) (w w' : World) (s s' : S) (es : List Exchange) (o : Settled S) where
-    pub dismissed : (w'' : World) (s'' : S) (fs : List Exchange) (r : Answer) → kind.unregisters s w es r s' w' → kind.leaves s' w' fs s'' w'' → record { slots = xs; lifecycle = left t ts; world = w'' } ≡ o
+    pub dismissed : (w'' : World) (s'' : S) (fs : List Exchange) (r : Answer) → kind.unregisters s w es r s' w' → kind.leaves s' w' fs s'' w'' → kind.ends s'' → record { slots = xs; lifecycle = left t ts; world = w'' } ≡ o
         → Takes kind (dismisses (done tt) t xs ts w s) (es ++ fs) o
-    dismissed w'' s'' fs r h k q = (went es r s' w', h, fs, refl, (went fs (done tt) s'' w'', k, [], sym (append-nil fs), (refl, sym q)))
+    dismissed w'' s'' fs r h k over q = (went es r s' w', h, fs, refl, (went fs (done tt) s'' w'', k, [], sym (append-nil fs), (over, (refl, sym q))))
 
-    pub let_go : (n : ℕ) (c : Option ℕ) → kind.leaves s w es s' w' → record { slots = xs; lifecycle = left t ts; world = w' } ≡ o
+    pub let_go : (n : ℕ) (c : Option ℕ) → kind.leaves s w es s' w' → kind.ends s' → record { slots = xs; lifecycle = left t ts; world = w' } ≡ o
         → Takes kind (dismisses (refused n c) t xs ts w s) es o
-    let_go n c k q = (went es (done tt) s' w', k, [], sym (append-nil es), (refl, sym q))
+    let_go n c k over q = (went es (done tt) s' w', k, [], sym (append-nil es), (over, (refl, sym q)))
 
   -- ITS TURN
   module _ (l : Loop S) (e : PollEvent) (t : Token) (s s' : S) (w' : World) (r : Outcome PostAction) (asked errands : List Errand) (action : PostAction) (slots : List (Slot S)) (fate : Answer)
@@ -54,16 +52,16 @@ module _ {S : Type 0} (kind : EventSourceOf S) where
         → asked ≡ [] → kind.processes s l.world e.readiness e.token asked xs r s' w' errands
         → action ≡ action_of r l.pending → slots ≡ placed l.slots t.id Handled → Takes kind (acts kind action t slots l.lifecycle w' s') ys a
         → fate ≡ fate_of r a.answer → Takes kind (settles (fitting a.slots t) fate t a.slots a.lifecycle a.world a.source) zs b
-        → turned l fate b ≡ o → Takes kind (turn_of kind l e) (xs ++ (ys ++ zs)) o
+        → turned l fate errands b ≡ o → Takes kind (turn_of kind l e) (xs ++ (ys ++ zs)) o
     turn_made own there none h does out k goes m q =
         let h' : kind.processes s l.world e.readiness e.token [] xs r s' w' errands = subst (λ es. kind.processes s l.world e.readiness e.token es xs r s' w' errands) none h in
         let act = λ (x : PostAction) (ss : List (Slot S)). acts kind x t ss l.lifecycle w' s' in
         let k' = subst (λ x. Takes kind (act x (placed l.slots t.id Handled)) ys a) does (subst (λ ss. Takes kind (act action ss) ys a) out k) in
         let settle = λ (u : InHand S) (f : Answer). settles (fitting u.slots t) f t u.slots u.lifecycle u.world u.source in
         let m' = subst (λ f. Takes kind (settle a f) zs b) goes m in
-        let q' = subst (λ f. turned l f b ≡ o) goes q in
-        let run = takes_then kind (λ (u : InHand S). and_then (settle u (fate_of r u.answer)) (λ v. ends (turned l (fate_of r u.answer) v))) zs o (act (action_of r l.pending) (placed l.slots t.id Handled)) ys a k'
-        (takes_made kind (turned l (fate_of r a.answer)) (settle a (fate_of r a.answer)) zs b o m' q') in
+        let q' = subst (λ f. turned l f errands b ≡ o) goes q in
+        let run = takes_then kind (λ (u : InHand S). and_then (settle u (fate_of r u.answer)) (λ v. ends (turned l (fate_of r u.answer) errands v))) zs o (act (action_of r l.pending) (placed l.slots t.id Handled)) ys a k'
+        (takes_made kind (turned l (fate_of r a.answer) errands) (settle a (fate_of r a.answer)) zs b o m' q') in
         let taken : Takes kind (turn_by kind l e t (standing_at l.slots (fitting l.slots t))) (xs ++ (ys ++ zs)) o =
         rw there (record { answer = r; source = s'; world = w'; errands = errands; exchanges = xs }, h', ys ++ zs, refl, run) in
         subst (λ u. Takes kind (turn_by kind l e u (standing_at l.slots (fitting l.slots u))) (xs ++ (ys ++ zs)) o) own taken
@@ -82,32 +80,29 @@ module _ {S : Type 0} (kind : EventSourceOf S) where
   one_shown vs t ts xs s s' es o there h k = rw there (s', h, k)
 
   -- ALL TURNS
-  module _ (l : Loop S) (e : PollEvent) (es : List PollEvent) (ls : List Line) (xs : List Exchange) (u : Turn S) (o : Turns S) (h : Takes kind (turn_of kind l e) xs u) where
-    abbrev rest : Turn S → Course S (Turns S)
-    rest v = goes_on kind v.answer (turns_of kind es) es v.loop (ls ++ line_of v.verdict e ∷ [])
+  module _ (a : Turns S) (e : PollEvent) (es : List PollEvent) (xs : List Exchange) (u : Turn S) (o : Turns S) (h : Takes kind (turn_of kind a.loop e) xs u) where
+    abbrev goes : Answer → Turn S → Course S (Turns S)
+    goes r v = goes_on kind r (turns_of kind es) es (with_turn a e v)
 
     -- one, and the turns behind it
-    pub turned_one : (ys : List Exchange) → u.answer ≡ done tt → Takes kind (turns_of kind es u.loop (ls ++ line_of u.verdict e ∷ [])) ys o → Takes kind (turns_of kind (e ∷ es) l ls) (xs ++ ys) o
-    turned_one ys fine k =
-        let on = λ (a : Answer). Takes kind (goes_on kind a (turns_of kind es) es u.loop (ls ++ line_of u.verdict e ∷ [])) ys o in
-        takes_then kind rest ys o (turn_of kind l e) xs u h (subst on (sym fine) k)
+    pub turned_one : (ys : List Exchange) → u.answer ≡ done tt → Takes kind (turns_of kind es (with_turn a e u)) ys o → Takes kind (turns_of kind (e ∷ es) a) (xs ++ ys) o
+    turned_one ys fine k = takes_then kind (λ v. goes v.answer v) ys o (turn_of kind a.loop e) xs u h (subst (λ r. Takes kind (goes r u) ys o) (sym fine) k)
 
     -- one that stops the dispatch
-    pub turned_last : (n : ℕ) (c : Option ℕ) → u.answer ≡ refused n c → turns (refused n c) u.loop ((ls ++ line_of u.verdict e ∷ []) ++ lost es) ≡ o → Takes kind (turns_of kind (e ∷ es) l ls) xs o
+    pub turned_last : (n : ℕ) (c : Option ℕ) → u.answer ≡ refused n c → with_lost (with_turn a e u) es ≡ o → Takes kind (turns_of kind (e ∷ es) a) xs o
     turned_last n c stops is =
-        let on = λ (a : Answer). Takes kind (goes_on kind a (turns_of kind es) es u.loop (ls ++ line_of u.verdict e ∷ [])) [] o in
-        subst (λ ys. Takes kind (turns_of kind (e ∷ es) l ls) ys o) (append-nil xs) (takes_then kind rest [] o (turn_of kind l e) xs u h (subst on (sym stops) (refl, sym is)))
+        subst (λ ys. Takes kind (turns_of kind (e ∷ es) a) ys o) (append-nil xs) (takes_then kind (λ v. goes v.answer v) [] o (turn_of kind a.loop e) xs u h (subst (λ r. Takes kind (goes r u) [] o) (sym stops) (refl, sym is)))
 
   -- A DISPATCH
   -- its hooks were shown the events, and each event had its turn or was lost
   pub handed : (q es : List PollEvent) (l : Loop S) (ys : List (Slot S)) (xs zs : List Exchange) (a b : Turns S) (o : Dispatched S) → Takes kind (shows_hooks es l.lifecycle l.slots) [] ys
-      → Takes kind (turns_of kind q (record l { slots = ys }) []) xs a → Takes kind (second kind a.answer es a.loop a.sheet) zs b → dispatched b.answer b.loop [] b.sheet ≡ o
+      → Takes kind (turns_of kind q (no_turns (record l { slots = ys }))) xs a → Takes kind (goes_on kind a.answer (turns_of kind es) es a) zs b → handled es b ≡ o
       → Takes kind (hands_out kind q es l) (xs ++ zs) o
   handed q es l ys xs zs a b o shown first k is =
-      let turn = λ (u : Turns S). and_then (second kind u.answer es u.loop u.sheet) (λ v. ends (dispatched v.answer v.loop [] v.sheet)) in
-      takes_then kind (λ (us : List (Slot S)). and_then (turns_of kind q (record l { slots = us }) []) turn) (xs ++ zs) o (shows_hooks es l.lifecycle l.slots) [] ys shown
-      (takes_then kind turn zs o (turns_of kind q (record l { slots = ys }) []) xs a first
-      (takes_made kind (λ (v : Turns S). dispatched v.answer v.loop [] v.sheet) (second kind a.answer es a.loop a.sheet) zs b o k is))
+      let rest = λ (u : Turns S). and_then (goes_on kind u.answer (turns_of kind es) es u) (λ v. ends (handled es v)) in
+      takes_then kind (λ (us : List (Slot S)). and_then (turns_of kind q (no_turns (record l { slots = us }))) rest) (xs ++ zs) o (shows_hooks es l.lifecycle l.slots) [] ys shown
+      (takes_then kind rest zs o (turns_of kind q (no_turns (record l { slots = ys }))) xs a first
+      (takes_made kind (handled es) (goes_on kind a.answer (turns_of kind es) es a) zs b o k is))
 
   -- its hooks were asked, and then it went on
   pub asked_first : (t : Option ℕ) (l : Loop S) (q : List PollEvent) (start : ℕ) (xs : List Exchange) (h : Hooked S) (o : Dispatched S) → Takes kind (asks_hooks l.lifecycle l.slots q) [] h

@@ -1,23 +1,30 @@
 -- The one register through each change of the slots.
-use Rattle.std.proofs.Common.{length, ◌<◌, ◌≤◌, ◌^◌, ◌≡◌, ℕ, true, ◌⊎◌, List, [], Some, None, Option, ◌≢◌, sym, ◌∙◌, ap, arith, inl, inr, subst}
+use Rattle.std.proofs.Common.{length, ◌<◌, ◌≤◌, ◌^◌, ◌≡◌, ℕ, Bool, true, false, ◌⊎◌, List, [], Some, None, Option, ◌≢◌, nat_lt, sym, ◌∙◌, ap, arith, inl, inr, subst}
 use Rattle.std.specs.Prelude.{nat_eq, ◌==◌, if◌then◌else◌}
 use Rattle.std.specs.List.{IsDistinct}
 use Rattle.std.proofs.lemmas.Grind.{common_steps}
 use Rattle.token.specs.declared.token.Token.{Token}
+use Rattle.token.specs.Key.{key_of}
 use Rattle.token.specs.Refusal.{Outcome}
 use Rattle.poller.specs.declared.entry.Entry.{Entry}
 use Rattle.poller.specs.Register.{entry_of}
+use Rattle.timer_wheel.specs.declared.timeout.TimeoutData.{TimeoutData}
+use Rattle.timer_wheel.specs.Wheel.{Wheel, empty}
 use Rattle.sys.specs.Laws.{Consistent, In, Wakeful}
+use Rattle.sys.specs.Polling.{new_table}
 use Rattle.sys.specs.World.{Exchange, World}
-use Rattle.sys.proofs.Entries.{Alike, alike_at}
+use Rattle.sys.proofs.Entries.{Alike, alike_at, in_filter}
+use Rattle.sys.proofs.Locality.{Later}
 use Rattle.rules.specs.Files.{Files, Sound}
 use Rattle.rules.specs.Kinds.{Free, Processing, Reaches}
 use Rattle.rules.specs.Meaning.{Drawer, Drawn, Meaning, Nothing}
+use Rattle.rules.specs.Timers.{Timers}
+use Rattle.rules.proofs.Timers.{stood}
 use Rattle.kinds.specs.declared.source.EventSource.{Ghosts as EventSourceOf}
 use Rattle.list.specs.Slots.{placed, vacant_of}
 use Rattle.list.specs.declared.slots.Place.{Place}
 use Rattle.list.specs.declared.slots.Slot.{Slot}
-use Rattle.model.specs.Register.{KeyOf, OneRegister, OwnFiles, Owned, Owner, Owners, Shared, changed, meaning, owners, owner_in, token_in}
+use Rattle.model.specs.Register.{KeyOf, OneRegister, OneWheel, OwnFiles, Owned, Owner, Owners, Shared, changed, meaning, owners, owner_in, token_in}
 use Rattle.model.proofs.Slots.{GivenOut, given_out, placed_here, placed_other, same_or_not}
 
 -- what a source's factory draws are keys of its token
@@ -51,6 +58,11 @@ one_same who who' w same one = record {
   apart = λ i j o p is js. one.apart i j o p (sym (same i) ∙ is) (sym (same j) ∙ js);
   only = λ f e at. elim (one.only f e at) [ inl x ↦ inl (x.0, x.1, same x.0 ∙ x.2, x.3) | inr s ↦ inr s ];
   level = one.level;
+  wheel = record {
+    timers = one.wheel.timers;
+    given = λ i o is. one.wheel.given i o (sym (same i) ∙ is);
+    apart = λ i j o p is js. one.wheel.apart i j o p (sym (same i) ∙ is) (sym (same j) ∙ js);
+  };
 }
 
 -- a source goes from slot i to slot j, where none stood
@@ -76,6 +88,11 @@ module _ (who : Owners) (i j : ℕ) (o : Owner) (some : who i ≡ Some o) (none 
     apart = λ k l p q ks ls ne. one.apart (before k) (before l) p q (moved_before k p ks) (moved_before l q ls) (before_apart k l p q ks ls ne);
     only = λ f e at. elim (one.only f e at) [ inl x ↦ inl ((if x.0 == i then j else x.0), x.1, moved_after x.0 x.1 x.2, x.3) | inr s ↦ inr s ];
     level = one.level;
+    wheel = record {
+      timers = one.wheel.timers;
+      given = λ k p is. one.wheel.given (before k) p (moved_before k p is);
+      apart = λ k l p q ks ls ne. one.wheel.apart (before k) (before l) p q (moved_before k p ks) (moved_before l q ls) (before_apart k l p q ks ls ne);
+    };
   }
 
 none_twice : IsDistinct nat_eq []
@@ -112,10 +129,10 @@ pub record Beside (w : World) (o : Option Owner) (p : Owner) : Type 0 where
 
 module _ (who : Owners) (i : ℕ) where
   -- a source stands in slot i now, or stood in another
-  who_stands : (o : Option Owner) (j : ℕ) (p : Owner) → changed who i o j ≡ Some p → ((j ≡ i) × (o ≡ Some p)) ⊎ ((j ≢ i) × (who j ≡ Some p))
+  pub who_stands : (o : Option Owner) (j : ℕ) (p : Owner) → changed who i o j ≡ Some p → ((j ≡ i) × (o ≡ Some p)) ⊎ ((j ≢ i) × (who j ≡ Some p))
   who_stands o j p is = grind (arith, common_steps)
 
-  changed_other : (o : Option Owner) (j : ℕ) → (j ≢ i) → changed who i o j ≡ who j
+  pub changed_other : (o : Option Owner) (j : ℕ) → (j ≢ i) → changed who i o j ≡ who j
   changed_other o j ne = grind (arith, common_steps)
 
   pub changed_here : (o : Option Owner) → changed who i o i ≡ o
@@ -131,14 +148,46 @@ module _ (who : Owners) (i : ℕ) where
     ]
 
     -- the register after the change, where each entry is a source's own or stuck
-    one_changed : ((f : ℕ) (e : Entry) → entry_of f w'.entries ≡ Some e → Owned (changed who i o) f ⊎ (e.stuck ≡ true))
+    one_changed : OneWheel (changed who i o) w'.wheel → ((f : ℕ) (e : Entry) → entry_of f w'.entries ≡ Some e → Owned (changed who i o) f ⊎ (e.stuck ≡ true))
         → Consistent w'.entries w'.lines → OneRegister (changed who i o) w'
-    one_changed only level = record {
+    one_changed wheel only level = record {
       files = λ j p is. elim (who_stands o j p is) [ inl a ↦ here p a.1 | inr b ↦ (beside j p b.0 b.1).files ];
       apart = apart_after;
       only = only;
       level = level;
+      wheel = wheel;
     }
+
+  -- THE COUNTERS, where slot i is given another source or none
+  module _ (o : Option Owner) (t t' : Wheel) (was : OneWheel who t) (forward : t.next ≤ t'.next) where
+    -- each counter of the source in slot i is below the next, and none of another's
+    pub wheel_changed : ((x : TimeoutData) → In x t'.timers → x.counter < t'.next)
+        → ((p : Owner) → o ≡ Some p → (k : ℕ) → In k p.means.counters → (k < t'.next) × ((j : ℕ) (q : Owner) → (j ≢ i) → who j ≡ Some q → In k q.means.counters → ⊥))
+        → OneWheel (changed who i o) t'
+    wheel_changed timers here = record {
+      timers = timers;
+      given = λ j p is k m. elim (who_stands o j p is) [ inl a ↦ (here p a.1 k m).0 | inr b ↦ omega (arith, was.given j p b.1 k m, forward) ];
+      apart = λ j l p q js ls ne k inp inq. elim (who_stands o j p js) [
+        | inl a ↦ elim (who_stands o l q ls) [ inl b ↦ ne (a.0 ∙ sym b.0) | inr b ↦ (here p a.1 k inp).1 l q b.0 b.1 inq ]
+        | inr a ↦ elim (who_stands o l q ls) [ inl b ↦ (here q b.1 k inq).1 j p a.0 a.1 inp | inr b ↦ was.apart j l p q a.1 b.1 ne k inp inq ]
+      ];
+    }
+
+  -- through a call of the source
+  module _ (o : Owner) (some : who i ≡ Some o) (D : ℕ → Type 0) (m' : Meaning) (t t' : Wheel) (r : Timers D o.means.counters t m'.counters t') (was : OneWheel who t) where
+    wheel_step : OneWheel (changed who i (Some (meaning o m'))) t'
+    wheel_step = wheel_changed (Some (meaning o m')) t t' was r.forward
+        (λ x now. elim (r.own x) [ inl few ↦ omega (arith, was.timers x (stood x t.timers t'.timers few now), r.forward) | inr mine ↦ its x.counter mine ])
+        (λ p is k m. let mine : In k m'.counters = subst (λ (q : Owner). In k q.means.counters) (same_owner p is) m in (its k mine, others k mine))
+      where
+        same_owner : (p : Owner) → Some (meaning o m') ≡ Some p → p ≡ meaning o m'
+        same_owner p is = grind (arith, common_steps)
+
+        its : (k : ℕ) → In k m'.counters → k < t'.next
+        its k m = elim (r.joins k m) [ inl old ↦ omega (arith, was.given i o some k old, r.forward) | inr new ↦ new.1 ]
+
+        others : (k : ℕ) → In k m'.counters → (j : ℕ) (q : Owner) → (j ≢ i) → who j ≡ Some q → In k q.means.counters → ⊥
+        others k m j q ne is theirs = elim (r.joins k m) [ inl old ↦ was.apart j i q o is some ne k theirs old | inr new ↦ omega (arith, was.given j q is k theirs, new.0) ]
 
   still_owned : (o : Option Owner) (j : ℕ) (p : Owner) (f : ℕ) → (j ≢ i) → who j ≡ Some p → In f p.means.entered → Owned (changed who i o) f
   still_owned o j p f ne is own = (j, p, changed_other o j ne ∙ is, own)
@@ -157,13 +206,18 @@ module _ (who : Owners) (i : ℕ) where
   one_new w o none free one = one_changed w w (Some o) one
       (λ p is. record { sound = grind (arith, common_steps, none_twice); keys = λ f own e at. grind (arith, common_steps) })
       (λ j p ne is. record { files = one.files j p is; apart = λ q qs f own other. grind (arith, common_steps) })
+      (wheel_changed (Some o) w.wheel w.wheel one.wheel (omega arith) one.wheel.timers (λ p is k m. absurd (none_free p is k m)))
       (λ f e at. only_after (Some o) f e (λ q qs own. grind (arith, common_steps)) (one.only f e at))
       one.level
+    where
+      none_free : (p : Owner) → Some o ≡ Some p → (k : ℕ) → In k p.means.counters → ⊥
+      none_free p is k m = grind (arith, common_steps, free.counters)
 
   pub one_gone : (w : World) (o : Owner) → who i ≡ Some o → o.means.held ≡ [] → OneRegister who w → OneRegister (changed who i None) w
   one_gone w o some free one = one_changed w w None one
       (λ p is. grind (arith, common_steps))
       (λ j p ne is. record { files = one.files j p is; apart = λ q qs f own other. grind (arith, common_steps) })
+      (wheel_changed None w.wheel w.wheel one.wheel (omega arith) one.wheel.timers (λ p is k m. absurd (grind (arith, common_steps))))
       (λ f e at. only_after None f e (λ q qs own. grind (arith, common_steps, held_or_stuck o.means w.entries f e (one.files i o some).sound)) (one.only f e at))
       one.level
 
@@ -182,6 +236,7 @@ module _ (who : Owners) (i : ℕ) where
         files = beside_files D o.means m' p w.entries w'.entries fs (one.files j p is) apart;
         apart = λ q qs f mine yours. grind (arith, common_steps, fs.fresh f, (one.files j p is).sound.rest f yours, apart f);
       })
+      (wheel_step o some D m' w.wheel w'.wheel r.timers one.wheel)
       (λ f e at. elim (fs.only f e at) [
         | inl was ↦ only_after (Some (meaning o m')) f e (λ q qs own. grind (arith, common_steps)) (one.only f e was.1)
         | inr now ↦ elim now [ inl own ↦ inl (i, meaning o m', changed_here (Some (meaning o m')), own) | inr s ↦ inr s ]
@@ -200,6 +255,7 @@ module _ (who : Owners) (i : ℕ) where
         files = rw p.world (one.files j q is);
         apart = λ u us f mine yours. grind (arith, common_steps, one.apart i j o q some is (λ e. ne (sym e)) f, p.same);
       })
+      (wheel_step o some (λ k. k ≡ key_of t) m' w.wheel w'.wheel p.timers one.wheel)
       (λ f e at. only_after (Some (meaning o m')) f e (λ q qs mine. inl (i, meaning o m', changed_here (Some (meaning o m')), grind (arith, common_steps, p.same))) (one.only f e (grind (arith, common_steps, p.world))))
       (grind (arith, common_steps, one.level, p.world))
 
@@ -240,14 +296,26 @@ files_alike o es es' same own =
       keys = λ f mine e at. let x = alike_at f es es' e same at in grind (arith, common_steps, own.keys f mine x.0 x.1, x.2);
     }
 
-pub one_waited : (who : Owners) (w w' : World) → Wakeful w.entries w.lines w'.entries w'.lines → OneRegister who w → OneRegister who w'
-one_waited who w w' k one =
+-- what a wait leaves of the timers
+left_timers : (t t' : Wheel) → Later t t' → (t'.next ≡ t.next) × ((x : TimeoutData) → In x t'.timers → In x t.timers)
+left_timers t t' (inl e) = (ap (λ (u : Wheel). u.next) e, λ x m. subst (λ (u : Wheel). In x u.timers) e m)
+left_timers t t' (inr r) =
+    (ap (λ (u : Wheel). u.next) r.1, λ x m. (in_filter (λ (y : TimeoutData). nat_lt r.0 y.deadline) t.timers x (subst (λ (u : Wheel). In x u.timers) r.1 m)).0)
+
+pub one_waited : (who : Owners) (w w' : World) → Wakeful w.entries w.lines w'.entries w'.lines → Later w.wheel w'.wheel → OneRegister who w → OneRegister who w'
+one_waited who w w' k later one =
+    let fewer = left_timers w.wheel w'.wheel later in
     let same : Alike w.entries w'.entries = k.same one.level in
     record {
       files = λ i o is. files_alike o w.entries w'.entries same (one.files i o is);
       apart = one.apart;
       only = λ f e' at. let e = alike_at f w.entries w'.entries e' same at in elim (one.only f e.0 e.1) [ inl x ↦ inl x | inr s ↦ inr (grind (arith, common_steps, e.2)) ];
       level = k.consistent one.level;
+      wheel = record {
+        timers = λ x m. subst (λ (n : ℕ). x.counter < n) (sym fewer.0) (one.wheel.timers x (fewer.1 x m));
+        given = λ i o is n m. subst (λ (u : ℕ). n < u) (sym fewer.0) (one.wheel.given i o is n m);
+        apart = one.wheel.apart;
+      };
     }
 
 -- THE SLOTS
@@ -266,10 +334,15 @@ module _ {S : Type 0} (kind : EventSourceOf S) (xs : List (Slot S)) where
   owners_vacant t ys g = grind (arith, common_steps, (given_out xs t ys g).was)
 
 -- a loop that begins, with no slot in use and no entry
-pub one_new_loop : {S : Type 0} (kind : EventSourceOf S) (w : World) → w.entries ≡ [] → OneRegister (owners kind []) w
-one_new_loop kind w e = record {
+pub one_new_loop : {S : Type 0} (kind : EventSourceOf S) (w : World) (level : Bool) → w.entries ≡ [] → w.lines ≡ new_table level → w.wheel ≡ empty → OneRegister (owners kind []) w
+one_new_loop kind w level e l t = record {
   files = λ i o is. grind (arith, common_steps);
   apart = λ i j o p is js ne f mine yours. grind (arith, common_steps);
   only = λ f x at. grind (arith, common_steps);
-  level = grind (arith, common_steps);
+  level = rw l (elim level as (λ b. Consistent w.entries (new_table b)) [ true ↦ tt | false ↦ λ x m. absurd m ]);
+  wheel = record {
+    timers = λ x m. absurd (subst (λ (u : Wheel). In x u.timers) t m);
+    given = λ i o is. grind (arith, common_steps);
+    apart = λ i j o p is. grind (arith, common_steps);
+  };
 }

@@ -90,5 +90,11 @@ module _ {S : Type 0} (xs : List (Slot S)) (i : ℕ) where
   pub marked_version : (j : ℕ) (b : Bool) → (slot_at (marked xs i b) j).version ≡ (slot_at xs j).version
   marked_version j b = elim (marked_slot j b) [ inl e ↦ ap (λ (x : Slot S). x.version) e | inr e ↦ ap (λ (x : Slot S). x.version) e ]
 
+  pub marked_other : (j : ℕ) (b : Bool) → (j ≢ i) → slot_at (marked xs i b) j ≡ slot_at xs j
+  marked_other j b ne = get_or-set_other xs i j _ unused ne
+
+  pub marked_here : (b : Bool) → i < length xs → (slot_at (marked xs i b) i).enabled ≡ b
+  marked_here b l = ap (λ (x : Slot S). x.enabled) (get_or-set_same xs i _ unused l)
+
   pub marked_length : (b : Bool) → length (marked xs i b) ≡ length xs
   marked_length b = grind (arith, common_steps)

@@ -1,67 +1,73 @@
 -- What each turn keeps all turns of a dispatch keep, those of the hooks' events first.
-use Rattle.std.proofs.Common.{◌≡◌, ℕ, List, [], ◌∷◌, ◌++◌, Option, append_assoc}
+use Rattle.std.proofs.Common.{◌≡◌, ℕ, List, [], ◌∷◌, ◌++◌, Option, append_assoc, refl, subst, sym}
 use Rattle.std.proofs.lemmas.List.{map-append}
 use Rattle.token.specs.Refusal.{done, refused}
 use Rattle.poller.specs.Meaning.{Answer}
 use Rattle.list.specs.declared.slots.Slot.{Slot}
 use Rattle.sys.specs.declared.event.PollEvent.{PollEvent}
 use Rattle.sys.specs.World.{Exchange}
-use Rattle.sheet.specs.declared.Line.{Line}
-use Rattle.sheet.specs.Printed.{line_of}
 use Rattle.kinds.specs.declared.source.EventSource.{Ghosts as EventSourceOf}
 use Rattle.model.specs.Course.{Takes}
-use Rattle.model.specs.Dispatch.{Dispatched, Turn, Turns, dispatched, goes_on, hands_out, lost, second, shows_hooks, turn_of, turns, turns_of}
+use Rattle.model.specs.Dispatch.{Dispatched, Turn, Turns, goes_on, handled, hands_out, lost, no_turns, shows_hooks, turn_of, turns_of, with_lost, with_turn}
 use Rattle.model.specs.State.{Loop}
 use Rattle.model.proofs.Course.{taken_made, taken_then}
 
--- `I` speaks of the events that have had no turn, the loop and the lines so far, and `R` of what the turns leave.
-pub record Steps {S : Type 0} (kind : EventSourceOf S) (I : List PollEvent → Loop S → List Line → Type 0) (R : Turns S → Type 0) : Type 0 where
+-- `I` speaks of the events that have had no turn and of the turns so far, and `R` of what the turns leave.
+pub record Steps {S : Type 0} (kind : EventSourceOf S) (I : List PollEvent → Turns S → Type 0) (R : Turns S → Type 0) : Type 0 where
   -- each turn keeps it
-  pub step : (e : PollEvent) (es : List PollEvent) (l : Loop S) (ls : List Line) (qs : List Exchange) (t : Turn S) → I (e ∷ es) l ls → Takes kind (turn_of kind l e) qs t → I es t.loop (ls ++ line_of t.verdict e ∷ [])
+  pub step : (e : PollEvent) (es : List PollEvent) (a : Turns S) (qs : List Exchange) (t : Turn S) → I (e ∷ es) a → Takes kind (turn_of kind a.loop e) qs t → I es (with_turn a e t)
   -- all turns are over, or they stop at a fault
-  pub over : (l : Loop S) (ls : List Line) → I [] l ls → R (turns (done tt) l ls)
-  pub stop : (n : ℕ) (c : Option ℕ) (es : List PollEvent) (l : Loop S) (ls : List Line) → I es l ls → R (turns (refused n c) l (ls ++ lost es))
+  pub over : (a : Turns S) → I [] a → R a
+  pub stop : (n : ℕ) (c : Option ℕ) (es : List PollEvent) (a : Turns S) → a.answer ≡ refused n c → I es a → R (with_lost a es)
 
-module _ {S : Type 0} (kind : EventSourceOf S) (I : List PollEvent → Loop S → List Line → Type 0) (R : Turns S → Type 0) (steps : Steps kind I R) where
-  pub turns_keep : (es : List PollEvent) (l : Loop S) (ls : List Line) (qs : List Exchange) (o : Turns S) → I es l ls → Takes kind (turns_of kind es l ls) qs o → R o
-  turns_keep [] l ls qs o i c = rw c.1 (steps.over l ls i)
-  turns_keep (e ∷ es) l ls qs o i c =
-      let t = taken_then kind (λ (t : Turn S). goes_on kind t.answer (turns_of kind es) es t.loop (ls ++ line_of t.verdict e ∷ [])) o (turn_of kind l e) qs c in
-      going t.outcome t.outcome.answer t.second (steps.step e es l ls t.first t.outcome i t.came) t.rest (λ m ms zs. turns_keep es m ms zs o)
-    where
-      going : (t : Turn S) (a : Answer) (zs : List Exchange) → I es t.loop (ls ++ line_of t.verdict e ∷ []) → Takes kind (goes_on kind a (turns_of kind es) es t.loop (ls ++ line_of t.verdict e ∷ [])) zs o
-          → ((m : Loop S) (ms : List Line) (zs : List Exchange) → I es m ms → Takes kind (turns_of kind es m ms) zs o → R o) → R o
-      going t (done u) zs i c more = more t.loop (ls ++ line_of t.verdict e ∷ []) zs i c
-      going t (refused n d) zs i c more = rw c.1 (steps.stop n d es t.loop (ls ++ line_of t.verdict e ∷ []) i)
+module _ {S : Type 0} (kind : EventSourceOf S) (I : List PollEvent → Turns S → Type 0) (R : Turns S → Type 0) (steps : Steps kind I R) where
+  -- after a turn, by its answer
+  goes_keep : (r : Answer) (es : List PollEvent) (a : Turns S) (qs : List Exchange) (o : Turns S) → a.answer ≡ r → I es a
+      → ((b : Turns S) (ys : List Exchange) → I es b → Takes kind (turns_of kind es b) ys o → R o) → Takes kind (goes_on kind r (turns_of kind es) es a) qs o → R o
+  goes_keep (done u) es a qs o is i more c = more a qs i c
+  goes_keep (refused n d) es a qs o is i more c = rw c.1 (steps.stop n d es a is i)
 
-module _ {S : Type 0} (kind : EventSourceOf S) (I : List PollEvent → Loop S → List Line → Type 0) (R : Turns S → Type 0) (steps : Steps kind I R) where
+  pub turns_keep : (es : List PollEvent) (a : Turns S) (qs : List Exchange) (o : Turns S) → I es a → Takes kind (turns_of kind es a) qs o → R o
+  turns_keep [] a qs o i c = rw c.1 (steps.over a i)
+  turns_keep (e ∷ es) a qs o i c =
+      let t = taken_then kind (λ (t : Turn S). goes_on kind t.answer (turns_of kind es) es (with_turn a e t)) o (turn_of kind a.loop e) qs c in
+      goes_keep t.outcome.answer es (with_turn a e t.outcome) t.second o refl (steps.step e es a t.first t.outcome i t.came) (λ b ys. turns_keep es b ys o) t.rest
+
+module _ {S : Type 0} (kind : EventSourceOf S) (I : List PollEvent → Turns S → Type 0) (R : Turns S → Type 0) (steps : Steps kind I R) where
   -- after the turns of the hooks' events, with those of the poller and the timers to come
-  abbrev Between : List PollEvent → Answer → Loop S → List Line → Type 0
-  Between es (done u) l ls = I es l ls
-  Between es (refused n c) l ls = R (turns (refused n c) l (ls ++ lost es))
+  abbrev Between : List PollEvent → Answer → Turns S → Type 0
+  Between es (done u) a = I es a
+  Between es (refused n c) a = R (with_lost a es)
 
-  stop_between : (es : List PollEvent) (n : ℕ) (c : Option ℕ) (q : List PollEvent) (l : Loop S) (ls : List Line) → I (q ++ es) l ls → R (turns (refused n c) l ((ls ++ lost q) ++ lost es))
-  stop_between es n c q l ls i = rw (append_assoc, ← map-append) (steps.stop n c (q ++ es) l ls i)
+  over_between : (es : List PollEvent) (r : Answer) (a : Turns S) → a.answer ≡ r → I es a → Between es r a
+  over_between es (done u) a is i = i
+  over_between es (refused n c) a is i = steps.stop n c es a is i
 
-  steps_between : (es : List PollEvent) → Steps kind (λ q l ls. I (q ++ es) l ls) (λ b. Between es b.answer b.loop b.sheet)
-  steps_between es = record { step = λ e q. steps.step e (q ++ es); over = λ l ls i. i; stop = stop_between es }
+  stop_between : (es : List PollEvent) (n : ℕ) (c : Option ℕ) (q : List PollEvent) (a : Turns S) → a.answer ≡ refused n c → I (q ++ es) a → Between es a.answer (with_lost a q)
+  stop_between es n c q a is i =
+      let all : R (record a { sheet = (a.sheet ++ lost q) ++ lost es }) = rw (append_assoc, ← map-append) (steps.stop n c (q ++ es) a is i) in
+      subst (λ r. Between es r (with_lost a q)) (sym is) all
 
-  second_keeps : (a : Answer) (es : List PollEvent) (l : Loop S) (ls : List Line) (qs : List Exchange) (o : Turns S) → Between es a l ls → Takes kind (second kind a es l ls) qs o → R o
-  second_keeps (done u) es l ls qs o i c = turns_keep kind I R steps es l ls qs o i c
-  second_keeps (refused n d) es l ls qs o r c = rw c.1 r
+  steps_between : (es : List PollEvent) → Steps kind (λ q a. I (q ++ es) a) (λ a. Between es a.answer a)
+  steps_between es = record { step = λ e q. steps.step e (q ++ es); over = λ a. over_between es a.answer a refl; stop = stop_between es }
 
-  -- what the turns left is what the dispatch leaves, and no hooks' event waits
-  pub record HandedOut (o : Dispatched S) : Type 0 where
+  second_keeps : (r : Answer) (es : List PollEvent) (a : Turns S) (qs : List Exchange) (o : Turns S) → Between es r a → Takes kind (goes_on kind r (turns_of kind es) es a) qs o → R o
+  second_keeps (done u) es a qs o i c = turns_keep kind I R steps es a qs o i c
+  second_keeps (refused n d) es a qs o r c = rw c.1 r
+
+  -- what the turns left is what the dispatch leaves
+  pub record HandedOut (es : List PollEvent) (o : Dispatched S) : Type 0 where
     pub left : Turns S
     pub brought : R left
-    pub is : o ≡ dispatched left.answer left.loop [] left.sheet
+    pub is : o ≡ handled es left
 
   pub handed_out : (q es : List PollEvent) (l : Loop S) (qs : List Exchange) (o : Dispatched S)
-      → ((ys : List Exchange) (xs : List (Slot S)) → Takes kind (shows_hooks es l.lifecycle l.slots) ys xs → I (q ++ es) (record l { slots = xs }) []) → Takes kind (hands_out kind q es l) qs o → HandedOut o
+      → ((ys : List Exchange) (xs : List (Slot S)) → Takes kind (shows_hooks es l.lifecycle l.slots) ys xs → I (q ++ es) (no_turns (record l { slots = xs }))) → Takes kind (hands_out kind q es l) qs o → HandedOut es o
   handed_out q es l qs o begins c =
       let shown = taken_then kind _ o (shows_hooks es l.lifecycle l.slots) qs c in
-      let first = taken_then kind _ o (turns_of kind q (record l { slots = shown.outcome }) []) shown.second shown.rest in
-      let t = first.outcome in
-      let last = taken_made kind (λ (b : Turns S). dispatched b.answer b.loop [] b.sheet) o (second kind t.answer es t.loop t.sheet) first.second first.rest in
-      let between = turns_keep kind (λ q m ls. I (q ++ es) m ls) (λ b. Between es b.answer b.loop b.sheet) (steps_between es) q (record l { slots = shown.outcome }) [] first.first t (begins shown.first shown.outcome shown.came) first.came in
-      record { left = last.0; brought = second_keeps t.answer es t.loop t.sheet first.second last.0 between last.1; is = last.2 }
+      let begun = no_turns (record l { slots = shown.outcome }) in
+      let first = taken_then kind _ o (turns_of kind q begun) shown.second shown.rest in
+      let a = first.outcome in
+      let last = taken_made kind (handled es) o (goes_on kind a.answer (turns_of kind es) es a) first.second first.rest in
+      let between = turns_keep kind (λ q b. I (q ++ es) b) (λ b. Between es b.answer b) (steps_between es) q begun first.first a (begins shown.first shown.outcome shown.came) first.came in
+      record { left = last.0; brought = second_keeps a.answer es a first.second last.0 between last.1; is = last.2 }

@@ -15,7 +15,7 @@ use Rattle.poller.specs.Meaning.{Answer}
 use Rattle.sys.specs.World.{World}
 use Rattle.kinds.specs.declared.source.EventSource.{Ghosts as EventSourceOf}
 use Rattle.model.specs.State.{Loop}
-use Rattle.model.specs.Course.{Course, ends, registers, reregisters, unregisters, leaves, and_then}
+use Rattle.model.specs.Course.{Course, ends, finishes, registers, reregisters, unregisters, leaves, and_then}
 
 -- A SOURCE AND ITS LIFECYCLE ENTRIES
 
@@ -135,10 +135,10 @@ pub record Released : Type 0 where
   pub world : World
 
 module _ {S : Type 0} (kind : EventSourceOf S) where
-  -- where unregister was refused the source is let go
+  -- where unregister was refused the source is let go; it ends
   abbrev pub released_by : List Token → Answer → S → World → Course S Released
-  released_by ts (done u) s w = ends (record { lifecycle = ts; world = w })
-  released_by ts (refused n c) s w = leaves s w (λ g. ends (record { lifecycle = ts; world = g.world }))
+  released_by ts (done u) s w = finishes s (ends (record { lifecycle = ts; world = w }))
+  released_by ts (refused n c) s w = leaves s w (λ g. finishes g.source (ends (record { lifecycle = ts; world = g.world })))
 
   -- the source is unregistered, and its lifecycle entries go
   abbrev pub releases : List Token → World → S → Token → Course S Released

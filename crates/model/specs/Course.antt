@@ -45,6 +45,8 @@ pub data Course (S A : Type 0) : Type 0 where
   -- the two hooks
   sleeps : S → (Slept S → Course S A) → Course S A
   sees : S → List PollEvent → (S → Course S A) → Course S A
+  -- the source ends, and answers nothing
+  finishes : S → Course S A → Course S A
   -- the clock is read
   reads : (ℕ → Course S A) → Course S A
   -- a wait with its retries, by the timeout and the time at which the dispatch began
@@ -60,6 +62,7 @@ and_then (leaves s w k) f = leaves s w (λ c. and_then (k c) f)
 and_then (processes s w x t k) f = processes s w x t (λ c. and_then (k c) f)
 and_then (sleeps s k) f = sleeps s (λ c. and_then (k c) f)
 and_then (sees s es k) f = sees s es (λ s'. and_then (k s') f)
+and_then (finishes s k) f = finishes s (and_then k f)
 and_then (reads k) f = reads (λ n. and_then (k n) f)
 and_then (waits t n w k) f = waits t n w (λ c. and_then (k c) f)
 
@@ -74,5 +77,6 @@ module _ {S : Type 0} (kind : EventSourceOf S) where
   Takes (processes s w x t k) xs b = (c : Processed S) × kind.processes s w x t [] c.exchanges c.answer c.source c.world c.errands × (ys : List Exchange) × (xs ≡ c.exchanges ++ ys) × Takes (k c) ys b
   Takes (sleeps s k) xs b = (c : Slept S) × kind.sleeps s c.answer c.source × Takes (k c) xs b
   Takes (sees s es k) xs b = (s' : S) × kind.sees s es s' × Takes (k s') xs b
+  Takes (finishes s k) xs b = kind.ends s × Takes k xs b
   Takes (reads k) xs b = (n : ℕ) × (ys : List Exchange) × (xs ≡ read n ∷ ys) × Takes (k n) ys b
   Takes (waits t n w k) xs b = (c : Woken) × Retries 63 t n t w c.exchanges c.answer c.events c.world × (ys : List Exchange) × (xs ≡ c.exchanges ++ ys) × Takes (k c) ys b

@@ -16,13 +16,14 @@ use Rattle.sys.specs.declared.event.Class.TheVariants.{Synthetic}
 use Rattle.sys.specs.declared.event.PollEvent.{PollEvent}
 use Rattle.sys.specs.World.{World}
 use Rattle.kinds.specs.Events.{of_source}
+use Rattle.kinds.specs.declared.errand.Errand.{Errand}
 use Rattle.kinds.specs.declared.source.EventSource.{Ghosts as EventSourceOf}
 use Rattle.sheet.specs.declared.Line.{Line}
 use Rattle.sheet.specs.declared.Verdict.{Verdict}
 use Rattle.sheet.specs.declared.Verdict.TheVariants.{Delivered, Lost, Stale}
 use Rattle.sheet.specs.Printed.{line_of}
 use Rattle.model.specs.Calls.{Acted, renews, standing_at, withdraws}
-use Rattle.model.specs.Course.{Course, and_then, ends, leaves, processes, reads, sees, sleeps, unregisters, waits}
+use Rattle.model.specs.Course.{Course, and_then, ends, finishes, leaves, processes, reads, sees, sleeps, unregisters, waits}
 use Rattle.model.specs.Decide.{decided}
 use Rattle.model.specs.State.{Loop}
 
@@ -107,6 +108,8 @@ pub record Turn (S : Type 0) : Type 0 where
   pub answer : Answer
   pub verdict : Verdict
   pub loop : Loop S
+  -- what its source asked for
+  pub errands : List Errand
 
 module _ {S : Type 0} (kind : EventSourceOf S) where
   abbrev pub acts : PostAction → Token → List (Slot S) → List Token → World → S → Course S (InHand S)
@@ -122,10 +125,10 @@ pub record Settled (S : Type 0) : Type 0 where
   pub world : World
 
 module _ {S : Type 0} where
-  -- it is unregistered unless the turn failed, whatever is answered, and let go
+  -- it is unregistered unless the turn failed, whatever is answered, and let go, and ends
   abbrev pub dismisses : Answer → Token → List (Slot S) → List Token → World → S → Course S (Settled S)
-  dismisses (done u) t xs ts w s = unregisters s w (λ c. leaves c.source c.world (λ g. ends (record { slots = xs; lifecycle = left t ts; world = g.world })))
-  dismisses (refused n c) t xs ts w s = leaves s w (λ g. ends (record { slots = xs; lifecycle = left t ts; world = g.world }))
+  dismisses (done u) t xs ts w s = unregisters s w (λ c. leaves c.source c.world (λ g. finishes g.source (ends (record { slots = xs; lifecycle = left t ts; world = g.world }))))
+  dismisses (refused n c) t xs ts w s = leaves s w (λ g. finishes g.source (ends (record { slots = xs; lifecycle = left t ts; world = g.world })))
 
   -- it goes back into the slot that its token fits; where none does it leaves
   abbrev pub settles : Option ℕ → Answer → Token → List (Slot S) → List Token → World → S → Course S (Settled S)
@@ -133,20 +136,21 @@ module _ {S : Type 0} where
   settles None fate t xs ts w s = dismisses fate t xs ts w s
 
   -- nothing is pending after a turn
-  abbrev pub turned : Loop S → Answer → Settled S → Turn S
-  turned l fate e = record { answer = fate; verdict = Delivered; loop = record l { slots = e.slots; lifecycle = e.lifecycle; world = e.world; pending = Continue } }
+  abbrev pub turned : Loop S → Answer → List Errand → Settled S → Turn S
+  turned l fate asked e = record { answer = fate; verdict = Delivered; loop = record l { slots = e.slots; lifecycle = e.lifecycle; world = e.world; pending = Continue }; errands = asked }
 
+  -- no source is called, so nothing is asked for
   abbrev pub stale : Loop S → Turn S
-  stale l = record { answer = done tt; verdict = Stale; loop = l }
+  stale l = record { answer = done tt; verdict = Stale; loop = l; errands = [] }
 
 module _ {S : Type 0} (kind : EventSourceOf S) where
-  abbrev pub acted_on : Loop S → Token → Outcome PostAction → S → World → Course S (Turn S)
-  acted_on l t r s w =
+  abbrev pub acted_on : Loop S → Token → Outcome PostAction → S → World → List Errand → Course S (Turn S)
+  acted_on l t r s w asked =
       and_then (acts kind (action_of r l.pending) t (placed l.slots t.id Handled) l.lifecycle w s)
-      (λ a. and_then (settles (fitting a.slots t) (fate_of r a.answer) t a.slots a.lifecycle a.world a.source) (λ e. ends (turned l (fate_of r a.answer) e)))
+      (λ a. and_then (settles (fitting a.slots t) (fate_of r a.answer) t a.slots a.lifecycle a.world a.source) (λ e. ends (turned l (fate_of r a.answer) asked e)))
 
   abbrev pub turn_by : Loop S → PollEvent → Token → Place S → Course S (Turn S)
-  turn_by l e t (Occupied s) = processes s l.world e.readiness e.token (λ c. acted_on l t c.answer c.source c.world)
+  turn_by l e t (Occupied s) = processes s l.world e.readiness e.token (λ c. acted_on l t c.answer c.source c.world c.errands)
   turn_by l e t p = ends (stale l)
 
   -- THE TURN of an event: its source is called, if its token fits a slot
@@ -155,27 +159,59 @@ module _ {S : Type 0} (kind : EventSourceOf S) where
 
 -- ALL TURNS
 
--- the answer of a dispatch, the loop, the hooks' events that still wait, and the sheet
-pub record Dispatched (S : Type 0) : Type 0 where
-  pub answer : Answer
-  pub loop : Loop S
-  pub waiting : List PollEvent
-  pub sheet : List Line
-
-abbrev pub dispatched : {S : Type 0} → Answer → Loop S → List PollEvent → List Line → Dispatched S
-dispatched r l q ls = record { answer = r; loop = l; waiting = q; sheet = ls }
-
 abbrev pub lost : List PollEvent → List Line
 lost es = map (line_of Lost) es
 
--- what turns leave
+-- what turns leave, with the errands of the last
 pub record Turns (S : Type 0) : Type 0 where
   pub answer : Answer
   pub loop : Loop S
+  pub errands : List Errand
   pub sheet : List Line
 
-abbrev pub turns : {S : Type 0} → Answer → Loop S → List Line → Turns S
-turns r l ls = record { answer = r; loop = l; sheet = ls }
+-- before the first
+abbrev pub no_turns : {S : Type 0} → Loop S → Turns S
+no_turns l = record { answer = done tt; loop = l; errands = []; sheet = [] }
+
+-- a turn more, and its line behind the lines so far
+abbrev pub with_turn : {S : Type 0} → Turns S → PollEvent → Turn S → Turns S
+with_turn a e t = record { answer = t.answer; loop = t.loop; errands = t.errands; sheet = a.sheet ++ line_of t.verdict e ∷ [] }
+
+abbrev pub with_lost : {S : Type 0} → Turns S → List PollEvent → Turns S
+with_lost a es = record a { sheet = a.sheet ++ lost es }
+
+module _ {S : Type 0} (kind : EventSourceOf S) where
+  -- at a fault the later events are lost
+  abbrev pub goes_on : Answer → (Turns S → Course S (Turns S)) → List PollEvent → Turns S → Course S (Turns S)
+  goes_on (done u) on es a = on a
+  goes_on (refused n c) on es a = ends (with_lost a es)
+
+  -- each event has its turn
+  abbrev pub turns_of : List PollEvent → Turns S → Course S (Turns S)
+  turns_of [] a = ends a
+  turns_of (e ∷ es) a = and_then (turn_of kind a.loop e) (λ t. goes_on t.answer (turns_of es) es (with_turn a e t))
+
+-- A DISPATCH
+
+-- all that it leaves
+pub record Dispatched (S : Type 0) : Type 0 where
+  pub answer : Answer
+  pub loop : Loop S
+  -- what was asked for in its last turn
+  pub errands : List Errand
+  -- the hooks' events that still wait
+  pub waiting : List PollEvent
+  -- what its wait brought
+  pub events : List PollEvent
+  pub sheet : List Line
+
+-- before any turn
+abbrev pub unhandled : {S : Type 0} → Answer → Loop S → List PollEvent → List PollEvent → List Line → Dispatched S
+unhandled r l q es ls = record { answer = r; loop = l; errands = []; waiting = q; events = es; sheet = ls }
+
+-- no event of the hooks waits after the turns
+abbrev pub handled : {S : Type 0} → List PollEvent → Turns S → Dispatched S
+handled es a = record { answer = a.answer; loop = a.loop; errands = a.errands; waiting = []; events = es; sheet = a.sheet }
 
 -- while events of the hooks wait the timeout is 0
 abbrev pub timeout_by : List PollEvent → Option ℕ → Option ℕ
@@ -183,35 +219,21 @@ timeout_by [] t = t
 timeout_by (e ∷ es) t = Some 0
 
 module _ {S : Type 0} (kind : EventSourceOf S) where
-  -- at a fault the later events are lost
-  abbrev pub goes_on : Answer → (Loop S → List Line → Course S (Turns S)) → List PollEvent → Loop S → List Line → Course S (Turns S)
-  goes_on (done u) on es l ls = on l ls
-  goes_on (refused n c) on es l ls = ends (turns (refused n c) l (ls ++ lost es))
-
-  -- each event has its turn and its line, behind the lines so far
-  abbrev pub turns_of : List PollEvent → Loop S → List Line → Course S (Turns S)
-  turns_of [] l ls = ends (turns (done tt) l ls)
-  turns_of (e ∷ es) l ls = and_then (turn_of kind l e) (λ t. goes_on t.answer (turns_of es) es t.loop (ls ++ line_of t.verdict e ∷ []))
-
   -- the hooks' events first, and then the poller's and the timers'
-  abbrev pub second : Answer → List PollEvent → Loop S → List Line → Course S (Turns S)
-  second (done u) es l ls = turns_of es l ls
-  second (refused n c) es l ls = ends (turns (refused n c) l (ls ++ lost es))
-
   abbrev pub hands_out : List PollEvent → List PollEvent → Loop S → Course S (Dispatched S)
   hands_out q es l =
-      and_then (shows_hooks es l.lifecycle l.slots) (λ xs. and_then (turns_of q (record l { slots = xs }) [])
-      (λ a. and_then (second a.answer es a.loop a.sheet) (λ b. ends (dispatched b.answer b.loop [] b.sheet))))
+      and_then (shows_hooks es l.lifecycle l.slots) (λ xs. and_then (turns_of kind q (no_turns (record l { slots = xs })))
+      (λ a. and_then (goes_on kind a.answer (turns_of kind es) es a) (λ b. ends (handled es b))))
 
   -- after the wait; where it failed what was reported is lost
   abbrev pub woken : Option Answer → List PollEvent → List PollEvent → Loop S → Course S (Dispatched S)
-  woken None q es l = ends (dispatched (done tt) l q [])
+  woken None q es l = ends (unhandled (done tt) l q es [])
   woken (Some (done u)) q es l = hands_out q es l
-  woken (Some (refused n c)) q es l = ends (dispatched (refused n c) l q (lost es))
+  woken (Some (refused n c)) q es l = ends (unhandled (refused n c) l q es (lost es))
 
   abbrev pub waits_by : Answer → Option ℕ → ℕ → Loop S → List PollEvent → Course S (Dispatched S)
   waits_by (done u) t start l q = waits (timeout_by q t) start l.world (λ c. woken c.answer q c.events (record l { world = c.world }))
-  waits_by (refused n c) t start l q = ends (dispatched (refused n c) l q [])
+  waits_by (refused n c) t start l q = ends (unhandled (refused n c) l q [] [])
 
   -- A DISPATCH over the loop, with the hooks' events that wait already
   abbrev pub dispatch_of : Option ℕ → Loop S → List PollEvent → Course S (Dispatched S)

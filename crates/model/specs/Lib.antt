@@ -4,6 +4,8 @@ pub mod Calls
 pub mod Register
 pub mod Counts
 pub mod Order
+pub mod Others
+pub mod Refusals
 pub mod Decide
 pub mod Retries
 pub mod Dispatch

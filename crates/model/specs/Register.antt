@@ -1,9 +1,11 @@
 -- THE POLLER AND THE SOURCES SHARE ONE REGISTER.
-use Rattle.std.specs.Prelude.{◌≡◌, ℕ, true, if◌then◌else◌, ◌⊎◌, List, Some, None, Option, ◌==◌, ◌≢◌}
+use Rattle.std.specs.Prelude.{◌≡◌, ℕ, ◌<◌, true, if◌then◌else◌, ◌⊎◌, List, Some, None, Option, ◌==◌, ◌≢◌}
 use Rattle.token.specs.declared.token.Token.{Token}
 use Rattle.token.specs.Key.{same_source, token_of}
 use Rattle.poller.specs.declared.entry.Entry.{Entry}
 use Rattle.poller.specs.Register.{entry_of}
+use Rattle.timer_wheel.specs.declared.timeout.TimeoutData.{TimeoutData}
+use Rattle.timer_wheel.specs.Wheel.{Wheel}
 use Rattle.sys.specs.Laws.{Consistent, In}
 use Rattle.sys.specs.World.{World}
 use Rattle.rules.specs.Files.{Sound, Stood}
@@ -44,7 +46,13 @@ pub record OwnFiles (o : Owner) (es : List Entry) : Type 0 where
 abbrev pub Owned : Owners → ℕ → Type 0
 Owned who f = (i : ℕ) × (o : Owner) × (who i ≡ Some o) × In f o.means.entered
 
--- the files of the sources, and the poller's entries, one by one
+-- THE COUNTERS of timers: each was given out by the wheel, and none is two sources' own.
+pub record OneWheel (who : Owners) (t : Wheel) : Type 0 where
+  pub timers : (x : TimeoutData) → In x t.timers → x.counter < t.next
+  pub given : (i : ℕ) (o : Owner) → who i ≡ Some o → (k : ℕ) → In k o.means.counters → k < t.next
+  pub apart : (i j : ℕ) (o p : Owner) → who i ≡ Some o → who j ≡ Some p → (i ≢ j) → (k : ℕ) → In k o.means.counters → In k p.means.counters → ⊥
+
+-- the files of the sources, and the poller's entries, one by one; and their timers
 pub record OneRegister (who : Owners) (w : World) : Type 0 where
   pub files : (i : ℕ) (o : Owner) → who i ≡ Some o → OwnFiles o w.entries
   -- no file is two sources' own
@@ -53,6 +61,7 @@ pub record OneRegister (who : Owners) (w : World) : Type 0 where
   pub only : (f : ℕ) (e : Entry) → entry_of f w.entries ≡ Some e → Owned who f ⊎ (e.stuck ≡ true)
   -- the level table agrees with the poller
   pub level : Consistent w.entries w.lines
+  pub wheel : OneWheel who w.wheel
 
 -- a source holds the file under the key
 abbrev pub HeldBy : Owners → ℕ → ℕ → Type 0

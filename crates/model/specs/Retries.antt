@@ -19,9 +19,9 @@ interrupted (refused n c) = n == 15
 abbrev pub Rest : Type 1
 Rest = World → List Exchange → Option Answer → List PollEvent → World → Type 0
 
--- with the time that is left, or to a quiet end where none is
+-- with the time that is left, or to a quiet end, with no events, where none is
 abbrev pub Left : Option ℕ → (Option ℕ → Rest) → Rest
-Left None on w xs r es w' = (xs ≡ []) × (r ≡ None) × (w' ≡ w)
+Left None on w xs r es w' = (xs ≡ []) × (r ≡ None) × (es ≡ []) × (w' ≡ w)
 Left (Some l) on w xs r es w' = on (Some l) w xs r es w'
 
 -- after an interruption the clock is read, if a timeout was given

@@ -12,7 +12,7 @@ ghost use Rattle.token.specs.declared.token.Token.{Token};
 
 use crate::inner::LoopInner;
 use bounded::Bounded;
-use kinds::EventSource;
+use kinds::{EventIterator, EventSource};
 use list::SourceList;
 use loop_handle::LoopHandle;
 use poller::Poller;
@@ -25,6 +25,7 @@ impl<P: Poller, C: Clock, S: EventSource> LoopInner<P, C, S> {
     pub fn before_sleep(&mut self, queue: &mut Bounded<PollEvent, 128>) -> Result<(), Error>
         ensures is { Takes S.EventSource (asks_hooks self.old.handle.registry.lifecycle self.old.handle.sources queue.old.items.items) [] (hooked_by (outcome result) self.new.handle.sources queue.new.items.items) }
         ensures same { self.new.handle ≡ with_sources self.old.handle self.new.handle.sources }
+        ensures errands { self.new.errands ≡ self.old.errands }
     {
         let LoopHandle {
             registry,
@@ -51,6 +52,7 @@ impl<P: Poller, C: Clock, S: EventSource> LoopInner<P, C, S> {
     pub fn before_handle_events(&mut self, events: &[PollEvent])
         ensures is { Takes S.EventSource (shows_hooks events.now self.old.handle.registry.lifecycle self.old.handle.sources) [] self.new.handle.sources }
         ensures same { self.new.handle ≡ with_sources self.old.handle self.new.handle.sources }
+        ensures errands { self.new.errands ≡ self.old.errands }
     {
         let LoopHandle {
             registry,
@@ -61,7 +63,7 @@ impl<P: Poller, C: Clock, S: EventSource> LoopInner<P, C, S> {
             ask(
                 sources,
                 token,
-                |source| source.before_handle_events(token, events),
+                |source| source.before_handle_events(EventIterator::new(token, events)),
             );
         }
     }

@@ -7,7 +7,7 @@ use loop_handle::LoopHandle;
 
 pub struct LoopInner<P, C, S> {
     pub handle: LoopHandle<P, C, S>,
-    // what the source whose event is being handled asks for; nothing of it is done yet
+    // what the source of the last turn asked for; nothing of it is done yet
     pub errands: Errands,
     // no source is being handled, and each lifecycle entry fits; either may be false within a turn, which works on the fields
     ghost calm: { Calm handle.sources },

@@ -1,11 +1,11 @@
 // The turn of one event.
-ghost use Rattle.std.specs.Prelude.{◌≡◌};
+ghost use Rattle.std.specs.Prelude.{◌≡◌, ℕ, List};
 ghost use Rattle.list.specs.Slots.{Apart, Calm, fitting};
-ghost use Rattle.loop_handle.specs.State.{loop_of};
+ghost use Rattle.loop_handle.specs.State.{Orderly, loop_of};
 ghost use Rattle.model.specs.Course.{Takes};
 ghost use Rattle.model.specs.Dispatch.{acts, noted_at, settles, turn_of};
 ghost use Rattle.model.specs.Order.{Listed, ListedBut};
-ghost use Rattle.turns.specs.Turns.{turn_as};
+ghost use Rattle.turns.specs.Turns.{OthersUntouched, turn_as};
 ghost use Rattle.sys.specs.World.{Between};
 ghost use Rattle.token.specs.Refusal.{outcome};
 ghost use Rattle.token.specs.declared.token.Token.{Token};
@@ -25,9 +25,11 @@ use token::{Error, Token};
 impl<P: Poller, C: Clock, S: EventSource> LoopInner<P, C, S> {
     // Hands the event to the source that its token fits. A fault stops the dispatch; the source was called before it.
     pub fn turn(&mut self, event: PollEvent) -> Result<Verdict, Error>
-        ensures is { Between P.Poller C.Clock self.old.handle.registry.poll self.new.handle.registry.poll (λ w xs w'. Takes S.EventSource (turn_of S.EventSource (loop_of self.old.handle w) event) xs (turn_as result (loop_of self.new.handle w'))) }
+        ensures leaves { (h : List ℕ) (v : List Token) → Orderly P.Poller S.EventSource h v self.old.handle → OthersUntouched P.Poller S.EventSource event.token.id self.old.handle self.new.handle }
+        ensures is { Between P.Poller C.Clock self.old.handle.registry.poll self.new.handle.registry.poll (λ w xs w'. Takes S.EventSource (turn_of S.EventSource (loop_of self.old.handle w) event) xs (turn_as result self.new w')) }
     {
         let LoopInner { handle, errands } = self;
+        errands.clear();
         let LoopHandle {
             registry,
             sources,
@@ -39,7 +41,6 @@ impl<P: Poller, C: Clock, S: EventSource> LoopInner<P, C, S> {
             return Ok(Verdict::Stale);
         };
         let mut source = sources.take_out(i);
-        errands.clear();
         let poll = &mut registry.poll;
         let answer = source.process_events(poll, event.readiness, event.token, errands);
         let pending = mem::replace(pending_action, PostAction::Continue);

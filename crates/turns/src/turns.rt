@@ -1,10 +1,10 @@
 // The turns of the events of a wait.
 ghost use Rattle.std.specs.Prelude.{◌≡◌, ◌+◌, ◌≤◌, ◌++◌, length, vec_len};
-ghost use Rattle.loop_handle.specs.State.{loop_of};
 ghost use Rattle.model.specs.Course.{Takes};
-ghost use Rattle.model.specs.Dispatch.{lost, turns, turns_of};
+ghost use Rattle.model.specs.Dispatch.{lost, turns_of};
 ghost use Rattle.sys.specs.World.{Between};
-ghost use Rattle.token.specs.Refusal.{outcome};
+ghost use Rattle.turns.specs.Turns.{turns_as};
+ghost use Rattle.token.specs.Refusal.{done, outcome};
 
 use crate::inner::LoopInner;
 use kinds::EventSource;
@@ -18,7 +18,7 @@ impl<P: Poller, C: Clock, S: EventSource> LoopInner<P, C, S> {
     pub fn turns(&mut self, events: &[PollEvent], sheet: &mut Sheet) -> Result<(), Error>
         requires { vec_len sheet.old.items + length events.now ≤ 640 }
         ensures count { vec_len sheet.new.items ≡ vec_len sheet.old.items + length events.now }
-        ensures is { Between P.Poller C.Clock self.old.handle.registry.poll self.new.handle.registry.poll (λ w xs w'. Takes S.EventSource (turns_of S.EventSource events.now (loop_of self.old.handle w) sheet.old.items.items) xs (turns (outcome result) (loop_of self.new.handle w') sheet.new.items.items)) }
+        ensures is { Between P.Poller C.Clock self.old.handle.registry.poll self.new.handle.registry.poll (λ w xs w'. Takes S.EventSource (turns_of S.EventSource events.now (turns_as (done tt) self.old w sheet.old.items.items)) xs (turns_as (outcome result) self.new w' sheet.new.items.items)) }
     {
         for (i, &event) in events.iter().enumerate() {
             let turn = self.turn(event);

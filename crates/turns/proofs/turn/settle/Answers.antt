@@ -36,11 +36,11 @@ returns-clause-is g c =
           let fate = accepted c.args.fate (grind (arith, common_steps)) in (
             e.0 ++ k.0,
             exchanged_then g.P.Poller g.C.Clock e.1 k.1,
-            rw (out, fate) (dismissed kind c.args.token c.args.sources.now c.args.registry.now.lifecycle _ _ c.args.source went.self e.0 _ _ left.self k.0 (outcome w.unregister.result) e.2 k.2 (grind (arith, common_steps))),
+            rw (out, fate) (dismissed kind c.args.token c.args.sources.now c.args.registry.now.lifecycle _ _ c.args.source went.self e.0 _ _ left.self k.0 (outcome w.unregister.result) e.2 k.2 c.end.ensures (grind (arith, common_steps))),
           )
       | else-is_ok w ↦
           let k = subst (λ s. Between g.P.Poller g.C.Clock c.args.registry.now.poll left.poll (λ v xs v'. kind.leaves s v xs left.self v')) w.source-is
           (subst (λ r. Between g.P.Poller g.C.Clock r.poll left.poll (λ v xs v'. kind.leaves c.if-is_ok.source v xs left.self v')) w.registry-is c.let_go.ensures) in
           let fate = failed c.args.fate (grind (arith, common_steps)) in
-          (k.0, k.1, rw (out, fate.2) (let_go kind c.args.token c.args.sources.now c.args.registry.now.lifecycle _ _ c.args.source left.self k.0 _ fate.0 fate.1 k.2 (grind (arith, common_steps))))
+          (k.0, k.1, rw (out, fate.2) (let_go kind c.args.token c.args.sources.now c.args.registry.now.lifecycle _ _ c.args.source left.self k.0 _ fate.0 fate.1 k.2 c.end.ensures (grind (arith, common_steps))))
     ]

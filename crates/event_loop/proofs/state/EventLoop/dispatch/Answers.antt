@@ -9,14 +9,14 @@ use Rattle.event_loop.proofs.Order.{orderly}
 use Rattle.event_loop.proofs.state.EventLoop.dispatch.Goals as goal
 
 pub returns-clause-order : goal.returns-clause-order
-returns-clause-order g c h o =
+returns-clause-order g c h v o =
     let before = c.args.self.now.inner in
     let after = c.dispatch_events.new.self in
     let e = c.dispatch_events.ensures in
     let distinct = (g.met.P.Poller.sound (state_of before.handle.registry.poll).poller).apart in
     let left = left_by after (outcome c.dispatch_events.result) (world_of g.P.Poller after.inner.handle.registry.poll) in
-    let kept = dispatch_keeps g.S.EventSource (record { registering = g.met.S.EventSource.registering; reregistering = g.met.S.EventSource.reregistering; unregistering = g.met.S.EventSource.unregistering; leaving = g.met.S.EventSource.leaving; processing = g.met.S.EventSource.processing; sleeping = g.met.S.EventSource.sleeping; seeing = g.met.S.EventSource.seeing }) h c.args.timeout (loop_over g.P.Poller before.handle) c.args.self.now.synthetic_events.items.items distinct o.0 before.calm e.0 left e.2 in
-    orderly g.P.Poller g.S.EventSource h after.inner.handle kept.0
+    let kept = dispatch_keeps g.S.EventSource (record { registering = g.met.S.EventSource.registering; reregistering = g.met.S.EventSource.reregistering; unregistering = g.met.S.EventSource.unregistering; leaving = g.met.S.EventSource.leaving; processing = g.met.S.EventSource.processing; sleeping = g.met.S.EventSource.sleeping; seeing = g.met.S.EventSource.seeing }) h v c.args.timeout (loop_over g.P.Poller before.handle) c.args.self.now.synthetic_events.items.items distinct o.0 before.calm e.0 left e.2 in
+    orderly g.P.Poller g.S.EventSource h v after.inner.handle kept.0
 
 pub returns-clause-lost : goal.returns-clause-lost
 returns-clause-lost g c done =
@@ -25,9 +25,10 @@ returns-clause-lost g c done =
     let e = c.dispatch_events.ensures in
     dispatch_loses g.S.EventSource c.args.timeout (loop_over g.P.Poller before) c.args.self.now.synthetic_events.items.items e.0 (left_by after (outcome c.dispatch_events.result) (world_of g.P.Poller after.inner.handle.registry.poll)) e.2 done
 
-pub returns-clause-lists : goal.returns-clause-lists
-returns-clause-lists g c =
+pub returns-clause-is : goal.returns-clause-is
+returns-clause-is g c =
     let before = c.args.self.now.inner.handle in
     let after = c.dispatch_events.new.self in
     let e = c.dispatch_events.ensures in
-    (e.0, e.1, dispatch_lists g.S.EventSource c.args.timeout (loop_over g.P.Poller before) c.args.self.now.synthetic_events.items.items e.0 (left_by after (outcome c.dispatch_events.result) (world_of g.P.Poller after.inner.handle.registry.poll)) e.2)
+    let left = left_by after (outcome c.dispatch_events.result) (world_of g.P.Poller after.inner.handle.registry.poll) in
+    (e.0, e.1, (e.2, dispatch_lists g.S.EventSource (record { registering = g.met.S.EventSource.registering; reregistering = g.met.S.EventSource.reregistering; unregistering = g.met.S.EventSource.unregistering; leaving = g.met.S.EventSource.leaving; processing = g.met.S.EventSource.processing; sleeping = g.met.S.EventSource.sleeping; seeing = g.met.S.EventSource.seeing }) c.args.timeout (loop_over g.P.Poller before) c.args.self.now.synthetic_events.items.items before.registry.poll.timers.rising e.0 left e.2))

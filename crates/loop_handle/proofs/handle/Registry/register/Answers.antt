@@ -2,7 +2,7 @@ use Rattle.std.proofs.Common.{ap, subst, arith}
 use Rattle.std.proofs.lemmas.Grind.{common_steps}
 use Rattle.token.specs.Refusal.{outcome}
 use Rattle.sys.specs.Laws.{In}
-use Rattle.model.proofs.Kept.{listed_joins}
+use Rattle.model.proofs.Entries.{listed_joins}
 use Rattle.model.proofs.Calls.{admitted}
 use Rattle.loop_handle.proofs.handle.Registry.register.Goals as goal
 

@@ -2,7 +2,7 @@ use Rattle.std.proofs.Common.{subst, arith}
 use Rattle.std.proofs.lemmas.Grind.{common_steps}
 use Rattle.token.specs.Refusal.{outcome}
 use Rattle.sys.specs.Laws.{In}
-use Rattle.model.proofs.Kept.{left_joins}
+use Rattle.model.proofs.Entries.{left_joins}
 use Rattle.model.proofs.Calls.{withdrawn}
 use Rattle.loop_handle.proofs.handle.Registry.unregister.Goals as goal
 
