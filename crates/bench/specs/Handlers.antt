@@ -1,10 +1,8 @@
 -- What the handlers of a script do, and what a number in it names.
-use Rattle.std.specs.Prelude.{ℕ, List, Result, if◌then◌else◌, nat_eq}
+use Rattle.std.specs.Prelude.{ℕ, List, Some, None, Option, if◌then◌else◌, nat_eq}
 use Rattle.std.specs.List.{slice_get}
-use Rattle.std.specs.Option.{ok_or}
-use Rattle.token.specs.declared.error.Error.{Error}
-use Rattle.token.specs.declared.error.Error.TheVariants.{BadForm}
 use Rattle.token.specs.declared.token.Token.{Token}
+use Rattle.token.specs.Refusal.{Outcome, done, refusal}
 use Rattle.alarm.specs.declared.alarm.TimeoutAction.{TimeoutAction}
 use Rattle.alarm.specs.declared.alarm.TimeoutAction.TheVariants.{Drop, ToDuration}
 
@@ -12,6 +10,10 @@ use Rattle.alarm.specs.declared.alarm.TimeoutAction.TheVariants.{Drop, ToDuratio
 abbrev pub repeated : ℕ → TimeoutAction
 repeated p = if nat_eq p 0 then Drop else ToDuration p
 
+abbrev pub named : Option Token → Outcome Token
+named (Some t) = done t
+named None = refusal 7
+
 -- the token of the n-th accepted insert, from 0; a line that names another is of no form
-abbrev pub nth_token : List Token → ℕ → Result Token Error
-nth_token ts n = ok_or (slice_get ts n) BadForm
+abbrev pub nth_token : List Token → ℕ → Outcome Token
+nth_token ts n = named (slice_get ts n)

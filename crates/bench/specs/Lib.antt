@@ -1,3 +1,4 @@
 pub mod Answer
+pub mod Written
 pub mod Calls
 pub mod Handlers

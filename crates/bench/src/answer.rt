@@ -1,11 +1,16 @@
 // The answer to a line, as text.
-ghost use Rattle.std.specs.Prelude.{◌≡◌, ◌++◌, ℕ, List, IfOk, string_bytes};
-ghost use Rattle.bench.specs.Calls.{Answered};
-ghost use Rattle.bench.specs.Answer.{call_text, dispatch_text, insert_text, refusal_text, removal_text, sheet_text};
+ghost use Rattle.std.specs.Prelude.{◌++◌, codes};
+ghost use Rattle.bench.specs.Answer.{call_text, dispatch_text, insert_text, lines_text, refusal_text, removal_text, sheet_text, stop_text};
+ghost use Rattle.bench.specs.Calls.{Ordered, Performs};
+ghost use Rattle.bench.specs.Written.{Written};
+ghost use Rattle.sheet.specs.Printed.{line_text};
+ghost use Rattle.token.specs.Refusal.{number_of, outcome};
 
 use crate::bench::{Bench, Fixed, Repeat, Source};
+use crate::text::push_all;
 use event_loop::{InsertError, Line};
 use generic::Generic;
+use itoa::Buffer;
 use kinds::{Either, EventSource};
 use poller::{BenchPoller, Interest, Mode, Poller};
 use script::Form;
@@ -14,9 +19,10 @@ use sys::{Clock, SetClock};
 use timer::Timer;
 use token::{Error, Token};
 
-// Does what the line asks for, and writes the answer.
+// Does what the line asks for, and writes the answer. Only an insert can find no room, and then nothing was done.
 pub fn perform(bench: &mut Bench, form: Option<Form>, out: &mut String) -> Result<(), AllocError>
-    ensures { IfOk result (λ _. (text : List ℕ) × (string_bytes out.new ≡ string_bytes out.old ++ text) × Answered ⟦<BenchPoller as Poller>⟧ ⟦<SetClock as Clock>⟧ ⟦<Source as EventSource>⟧ form bench.old text bench.new) }
+    ensures is { Performs ⟦<BenchPoller as Poller>⟧ ⟦<SetClock as Clock>⟧ ⟦<Source as EventSource>⟧ form bench.old out.old result bench.new out.new }
+    ensures order { Ordered ⟦<BenchPoller as Poller>⟧ ⟦<Source as EventSource>⟧ bench.old → Ordered ⟦<BenchPoller as Poller>⟧ ⟦<Source as EventSource>⟧ bench.new }
 {
     match form {
         Some(Form::Timer { deadline, period }) => {
@@ -40,26 +46,27 @@ pub fn perform(bench: &mut Bench, form: Option<Form>, out: &mut String) -> Resul
 }
 
 fn write_refusal(error: Error, out: &mut String) -> Result<(), AllocError>
-    ensures { IfOk result (λ _. string_bytes out.new ≡ string_bytes out.old ++ refusal_text error) }
+    ensures { Written (refusal_text (number_of error)) out.old result out.new }
 {
-    write!(out, "(no {})", error.number())
+    let mut number = Buffer::new();
+    push_all(out, &["(no ", number.format(error.number()), ")"])
 }
 
 fn write_call(answer: Result<(), Error>, out: &mut String) -> Result<(), AllocError>
-    ensures { IfOk result (λ _. string_bytes out.new ≡ string_bytes out.old ++ call_text answer) }
+    ensures { Written (call_text (outcome answer)) out.old result out.new }
 {
     match answer {
-        Ok(()) => out.push_str("(ok)"),
+        Ok(()) => push_all(out, &["(ok)"]),
         Err(error) => write_refusal(error, out),
     }
 }
 
 fn write_removal(answer: Result<bool, Error>, out: &mut String) -> Result<(), AllocError>
-    ensures { IfOk result (λ _. string_bytes out.new ≡ string_bytes out.old ++ removal_text answer) }
+    ensures { Written (removal_text (outcome answer)) out.old result out.new }
 {
     match answer {
-        Ok(true) => out.push_str("(ok)"),
-        Ok(false) => out.push_str("(none)"),
+        Ok(true) => push_all(out, &["(ok)"]),
+        Ok(false) => push_all(out, &["(none)"]),
         Err(error) => write_refusal(error, out),
     }
 }
@@ -69,10 +76,14 @@ fn write_insert(
     answer: Result<Token, InsertError<Source>>,
     out: &mut String,
 ) -> Result<(), AllocError>
-    ensures { IfOk result (λ _. string_bytes out.new ≡ string_bytes out.old ++ insert_text answer) }
+    ensures { Written (insert_text answer) out.old result out.new }
 {
     match answer {
-        Ok(token) => write!(out, "(ok {} {})", token.id, token.version),
+        Ok(token) => {
+            let (mut id, mut version) = (Buffer::new(), Buffer::new());
+            let (id, version) = (id.format(token.id), version.format(token.version));
+            push_all(out, &["(ok ", id, " ", version, ")"])
+        }
         Err(InsertError { inserted, error }) => {
             inserted.end();
             write_refusal(error, out)
@@ -86,22 +97,49 @@ fn write_dispatch(
     lines: &[Line],
     out: &mut String,
 ) -> Result<(), AllocError>
-    ensures { IfOk result (λ _. string_bytes out.new ≡ string_bytes out.old ++ dispatch_text answer lines.now) }
+    ensures { Written (dispatch_text (outcome answer) lines.now) out.old result out.new }
 {
     write_sheet(lines, out)?;
-    if let Err(error) = answer {
-        out.push_str(" ")?;
-        write_refusal(error, out)?;
+    write_stop(answer, out)
+}
+
+fn write_stop(answer: Result<(), Error>, out: &mut String) -> Result<(), AllocError>
+    ensures { Written (stop_text (outcome answer)) out.old result out.new }
+{
+    match answer {
+        Ok(()) => Ok(()),
+        Err(error) => {
+            push_all(out, &[" "])?;
+            write_refusal(error, out)
+        }
+    }
+}
+
+fn write_sheet(lines: &[Line], out: &mut String) -> Result<(), AllocError>
+    ensures { Written (sheet_text lines.now) out.old result out.new }
+{
+    push_all(out, &["(sheet"])?;
+    write_lines(lines, out)?;
+    push_all(out, &[")"])
+}
+
+// Each line behind a space.
+fn write_lines(lines: &[Line], out: &mut String) -> Result<(), AllocError>
+    ensures { Written (lines_text lines.now) out.old result out.new }
+{
+    for line in lines {
+        write_line(*line, out)?;
     }
     Ok(())
 }
 
-fn write_sheet(lines: &[Line], out: &mut String) -> Result<(), AllocError>
-    ensures { IfOk result (λ _. string_bytes out.new ≡ string_bytes out.old ++ sheet_text lines.now) }
+fn write_line(line: Line, out: &mut String) -> Result<(), AllocError>
+    ensures { Written (codes " " ++ line_text line) out.old result out.new }
 {
-    out.push_str("(sheet")?;
-    for line in lines {
-        write!(out, " {line}")?;
-    }
-    out.push_str(")")
+    let (class, verdict) = (line.class.letter(), line.verdict.letter());
+    let mut key = Buffer::new();
+    push_all(
+        out,
+        &[" (", class, " ", key.format(line.key), " ", verdict, ")"],
+    )
 }

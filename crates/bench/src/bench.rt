@@ -1,7 +1,8 @@
 // The sources that a script speaks of, and the loop over them.
-ghost use Rattle.std.specs.Prelude.{◌≡◌, false, [], IfOk, reverse};
+ghost use Rattle.std.specs.Prelude.{◌≡◌, ℕ, false, List, [], ◌++◌, IfErr, IfOk, reverse};
 ghost use Rattle.bench.specs.Handlers.{nth_token, repeated};
-ghost use Rattle.token.specs.Refusal.{done};
+ghost use Rattle.token.specs.Refusal.{done, outcome};
+ghost use Rattle.token.specs.declared.token.Token.{Token};
 ghost use Rattle.std.proofs.Common.{rules};
 
 use event_loop::{EventLoop, InsertError};
@@ -14,8 +15,8 @@ use sys::{Clock, Poll, SetClock, Setting};
 use timer::{TimeoutAction, Timer, TimerHandler};
 use token::{Error, Token};
 
-// Answers every event of its file alike.
-#[derive(Clone, Copy)]
+// Answers every event of its file alike. A source needs no more of a handler than that it can be dropped.
+#[derive(Drop)]
 pub struct Fixed {
     pub action: PostAction,
 }
@@ -35,7 +36,7 @@ impl GenericHandler for Fixed {
 }
 
 // Rings again after a period, or never where it is 0, as the script says it.
-#[derive(Clone, Copy)]
+#[derive(Drop)]
 pub struct Repeat {
     pub period: u64,
 }
@@ -62,14 +63,17 @@ pub struct Bench {
 }
 
 impl Bench {
-    ghost use Rattle.bench.specs.Calls.{Dispatches, Inserts, Removes, Told, accepted};
+    ghost use Rattle.bench.specs.Calls.{Dispatches, Inserts, NoRoom, Removes, Told, accepted, enable_refused};
     ghost use Rattle.event_loop.specs.End.{vacates_all};
     ghost use Rattle.event_loop.specs.State.{Idle, handle_of, polling_of};
-    ghost use Rattle.loop_handle.specs.State.{loop_over};
+    ghost use Rattle.loop_handle.specs.State.{Orderly, loop_over};
     ghost use Rattle.model.specs.Calls.{disable_of, enable_of, update_of};
     ghost use Rattle.model.specs.Course.{Takes};
+    ghost use Rattle.model.specs.Laws.{NoneLost};
+    ghost use Rattle.model.specs.Order.{given_out};
     ghost use Rattle.model.specs.State.{new_loop};
     ghost use Rattle.poller.specs.Bench.{bench_of};
+    ghost use Rattle.rules.specs.Kinds.{Free};
     ghost use Rattle.sys.specs.World.{Between};
 
     pub fn new(heap: Global) -> Result<Bench, AllocError>
@@ -77,6 +81,7 @@ impl Bench {
         ensures bench { IfOk result (λ b. (bench_of (polling_of b.event_loop).poller ≡ record { entries = []; ready = []; steps = [] }) × ((polling_of b.event_loop).clock.time ≡ 0)) }
         ensures idle { IfOk result (λ b. Idle b.event_loop) }
         ensures inserts { IfOk result (λ b. accepted b ≡ []) }
+        ensures order { IfOk result (λ b. Orderly ⟦<BenchPoller as Poller>⟧ ⟦<Source as EventSource>⟧ [] [] (handle_of b.event_loop)) }
     {
         let poller = BenchPoller::new(heap)?;
         let inserted = Vec::new(heap);
@@ -99,17 +104,20 @@ impl Bench {
 
     // The token of the n-th accepted insert, from 0. A line that names another is of no form.
     fn token(&self, n: u64) -> Result<Token, Error>
-        ensures { result ≡ nth_token (accepted self.now) n }
+        ensures { outcome result ≡ nth_token (accepted self.now) n }
     {
         let token = usize::try_from(n).ok().and_then(|i| self.inserted.get(i));
         token.copied().ok_or(Error::BadForm)
     }
 
+    // Where the list of accepted inserts has no room the source, which holds nothing, ends here.
     pub fn insert(
         &mut self,
         source: Source,
     ) -> Result<Result<Token, InsertError<Source>>, AllocError>
-        ensures { IfOk result (λ r. Inserts ⟦<BenchPoller as Poller>⟧ ⟦<SetClock as Clock>⟧ ⟦<Source as EventSource>⟧ source self.old r self.new) }
+        ensures is { IfOk result (λ r. Inserts ⟦<BenchPoller as Poller>⟧ ⟦<SetClock as Clock>⟧ ⟦<Source as EventSource>⟧ source self.old r self.new) }
+        ensures full { IfErr result (λ _. NoRoom self.old self.new) }
+        ensures order { (h : List ℕ) (v : List Token) → Orderly ⟦<BenchPoller as Poller>⟧ ⟦<Source as EventSource>⟧ h v (handle_of self.old.event_loop) → Free (⟦<Source as EventSource>⟧.means source) → IfOk result (λ _. Orderly ⟦<BenchPoller as Poller>⟧ ⟦<Source as EventSource>⟧ (h ++ given_out (handle_of self.old.event_loop).sources) v (handle_of self.new.event_loop)) }
     {
         // room first: an answer that hands the source back cannot be dropped
         self.inserted.reserve(1)?;
@@ -121,28 +129,32 @@ impl Bench {
     }
 
     pub fn enable(&mut self, n: u64) -> Result<(), Error>
-        ensures { Told ⟦<BenchPoller as Poller>⟧ ⟦<SetClock as Clock>⟧ ⟦<Source as EventSource>⟧ (enable_of ⟦<Source as EventSource>⟧) n self.old result self.new }
+        ensures is { Told ⟦<BenchPoller as Poller>⟧ ⟦<SetClock as Clock>⟧ ⟦<Source as EventSource>⟧ (enable_of ⟦<Source as EventSource>⟧) n self.old (outcome result) self.new }
+        ensures order { (h : List ℕ) (v : List Token) → Orderly ⟦<BenchPoller as Poller>⟧ ⟦<Source as EventSource>⟧ h v (handle_of self.old.event_loop) → Orderly ⟦<BenchPoller as Poller>⟧ ⟦<Source as EventSource>⟧ h (v ++ enable_refused (nth_token (accepted self.old) n) (outcome result)) (handle_of self.new.event_loop) }
     {
         let token = self.token(n)?;
         self.event_loop.enable(token)
     }
 
     pub fn update(&mut self, n: u64) -> Result<(), Error>
-        ensures { Told ⟦<BenchPoller as Poller>⟧ ⟦<SetClock as Clock>⟧ ⟦<Source as EventSource>⟧ (update_of ⟦<Source as EventSource>⟧) n self.old result self.new }
+        ensures is { Told ⟦<BenchPoller as Poller>⟧ ⟦<SetClock as Clock>⟧ ⟦<Source as EventSource>⟧ (update_of ⟦<Source as EventSource>⟧) n self.old (outcome result) self.new }
+        ensures order { (h : List ℕ) (v : List Token) → Orderly ⟦<BenchPoller as Poller>⟧ ⟦<Source as EventSource>⟧ h v (handle_of self.old.event_loop) → Orderly ⟦<BenchPoller as Poller>⟧ ⟦<Source as EventSource>⟧ h v (handle_of self.new.event_loop) }
     {
         let token = self.token(n)?;
         self.event_loop.update(token)
     }
 
     pub fn disable(&mut self, n: u64) -> Result<(), Error>
-        ensures { Told ⟦<BenchPoller as Poller>⟧ ⟦<SetClock as Clock>⟧ ⟦<Source as EventSource>⟧ (disable_of ⟦<Source as EventSource>⟧) n self.old result self.new }
+        ensures is { Told ⟦<BenchPoller as Poller>⟧ ⟦<SetClock as Clock>⟧ ⟦<Source as EventSource>⟧ (disable_of ⟦<Source as EventSource>⟧) n self.old (outcome result) self.new }
+        ensures order { (h : List ℕ) (v : List Token) → Orderly ⟦<BenchPoller as Poller>⟧ ⟦<Source as EventSource>⟧ h v (handle_of self.old.event_loop) → Orderly ⟦<BenchPoller as Poller>⟧ ⟦<Source as EventSource>⟧ h v (handle_of self.new.event_loop) }
     {
         let token = self.token(n)?;
         self.event_loop.disable(token)
     }
 
     pub fn remove(&mut self, n: u64) -> Result<bool, Error>
-        ensures { Removes ⟦<BenchPoller as Poller>⟧ ⟦<SetClock as Clock>⟧ ⟦<Source as EventSource>⟧ n self.old result self.new }
+        ensures is { Removes ⟦<BenchPoller as Poller>⟧ ⟦<SetClock as Clock>⟧ ⟦<Source as EventSource>⟧ n self.old (outcome result) self.new }
+        ensures order { (h : List ℕ) (v : List Token) → Orderly ⟦<BenchPoller as Poller>⟧ ⟦<Source as EventSource>⟧ h v (handle_of self.old.event_loop) → Orderly ⟦<BenchPoller as Poller>⟧ ⟦<Source as EventSource>⟧ h v (handle_of self.new.event_loop) }
     {
         let token = self.token(n)?;
         Ok(self.event_loop.remove(token))
@@ -150,7 +162,9 @@ impl Bench {
 
     // Sets the clock and the ready files, and dispatches without a timeout.
     pub fn dispatch(&mut self, clock: u64, files: Vec<u32>) -> Result<(), Error>
-        ensures { Dispatches ⟦<BenchPoller as Poller>⟧ ⟦<SetClock as Clock>⟧ ⟦<Source as EventSource>⟧ clock files.items self.old result self.new }
+        ensures is { Dispatches ⟦<BenchPoller as Poller>⟧ ⟦<SetClock as Clock>⟧ ⟦<Source as EventSource>⟧ clock files.items self.old (outcome result) self.new }
+        ensures order { (h : List ℕ) (v : List Token) → Orderly ⟦<BenchPoller as Poller>⟧ ⟦<Source as EventSource>⟧ h v (handle_of self.old.event_loop) → Orderly ⟦<BenchPoller as Poller>⟧ ⟦<Source as EventSource>⟧ h v (handle_of self.new.event_loop) }
+        ensures lost { outcome result ≡ done tt → NoneLost self.new.event_loop.sheet.items.items }
     {
         self.event_loop.arrange(&mut Setting {
             time: clock,

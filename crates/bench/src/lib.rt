@@ -3,6 +3,8 @@
 
 mod answer;
 mod bench;
+mod text;
 
 pub use answer::perform;
 pub use bench::{Bench, Fixed, Repeat, Source};
+pub use text::push_all;

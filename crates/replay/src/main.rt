@@ -11,11 +11,11 @@
 mod plan;
 mod report;
 
-ghost use Rattle.std.specs.Prelude.{◌≡◌, ℕ, List, ◌++◌, IfOk, string_bytes};
+ghost use Rattle.bench.specs.Calls.{Ordered};
 ghost use Rattle.replay.specs.Does.{Does};
 
 use anyhow::{Context, bail};
-use bench::{Bench, Source, perform};
+use bench::{Bench, Source, perform, push_all};
 use kinds::EventSource;
 use plan::{Plan, read_plan};
 use poller::{BenchPoller, Poller};
@@ -35,12 +35,13 @@ fn answer_line(
     line: &[u8],
     out: &mut String,
 ) -> Result<(), AllocError>
-    ensures { IfOk result (λ _. (text : List ℕ) × (string_bytes out.new ≡ string_bytes out.old ++ text) × Does ⟦<BenchPoller as Poller>⟧ ⟦<SetClock as Clock>⟧ ⟦<Source as EventSource>⟧ line.now bench.old text bench.new) }
+    ensures is { Does ⟦<BenchPoller as Poller>⟧ ⟦<SetClock as Clock>⟧ ⟦<Source as EventSource>⟧ line.now bench.old out.old result bench.new out.new }
+    ensures order { Ordered ⟦<BenchPoller as Poller>⟧ ⟦<Source as EventSource>⟧ bench.old → Ordered ⟦<BenchPoller as Poller>⟧ ⟦<Source as EventSource>⟧ bench.new }
 {
     match read_plan(heap, line)? {
         Some(steps) => {
             bench.event_loop.arrange(&mut Plan { steps: Some(steps) });
-            out.push_str("(ok)")
+            push_all(out, &["(ok)"])
         }
         None => perform(bench, read_line(heap, line)?, out),
     }

@@ -1,6 +1,7 @@
 // The lines of a sample that plan what the next calls of the poller come to. A script of doorbench has none.
-ghost use Rattle.std.specs.Prelude.{◌≡◌, IfOk, MatchOption};
+ghost use Rattle.std.specs.Prelude.{◌≡◌, None, IfErr, IfOk, MatchOption, codes};
 ghost use Rattle.poller.specs.Bench.{bench_of};
+ghost use Rattle.script.specs.Line.{StartsWith};
 ghost use Rattle.replay.specs.Plan.{Begins, Lists, NoList, NoStep, Planning, planned_by};
 
 use poller::{BenchPoller, Step};
@@ -15,7 +16,7 @@ pub struct Plan {
 }
 
 impl Environment<BenchPoller, SetClock> for Plan {
-    ghost arranges = { λ l p c l' p' c'. (bench_of p' ≡ planned_by l (bench_of p)) × (c' ≡ c) };
+    ghost arranges = { λ l p c l' p' c'. (bench_of p' ≡ planned_by l (bench_of p)) × (c' ≡ c) × (l'.steps ≡ None) };
 
     fn arrange(&mut self, poller: &mut BenchPoller, _clock: &mut SetClock) {
         if let Some(steps) = self.steps.take() {
@@ -26,7 +27,8 @@ impl Environment<BenchPoller, SetClock> for Plan {
 
 // The steps that the line plans, or None where it is no line `(P (step step ..))`. No `FromStr`: they need the heap.
 pub fn read_plan(heap: Global, line: &[u8]) -> Result<Option<Vec<Step>>, AllocError>
-    ensures { IfOk result (λ o. Planning line.now o) }
+    ensures reads { IfOk result (λ o. Planning line.now o) }
+    ensures needs { IfErr result (λ _. StartsWith (codes "(P (") line.now) }
 {
     let [b'(', b'P', b' ', b'(', rest @ ..] = line else {
         return Ok(None);

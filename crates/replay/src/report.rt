@@ -1,7 +1,10 @@
 // What a replay comes to, as text.
-ghost use Rattle.std.specs.Prelude.{◌≡◌, ◌++◌, IfOk, count_by, string_bytes};
-ghost use Rattle.replay.specs.Report.{counts_text, differences_text, differs, report_text};
+ghost use Rattle.std.specs.Prelude.{◌≡◌, count_by};
+ghost use Rattle.bench.specs.Written.{Written};
+ghost use Rattle.replay.specs.Report.{counts_text, difference_text, differences_text, differs, report_text};
 
+use bench::push_all;
+use itoa::Buffer;
 use std::alloc::AllocError;
 
 // What a line of a script was answered, beside the answer that is stored for it.
@@ -27,7 +30,7 @@ pub fn write_report(
     answered: &[Answered],
     out: &mut String,
 ) -> Result<(), AllocError>
-    ensures { IfOk result (λ _. string_bytes out.new ≡ string_bytes out.old ++ report_text scripts answered.now) }
+    ensures { Written (report_text scripts answered.now) out.old result out.new }
 {
     write_differences(answered, out)?;
     let differences = count_differences(answered);
@@ -35,19 +38,27 @@ pub fn write_report(
 }
 
 fn write_differences(answered: &[Answered], out: &mut String) -> Result<(), AllocError>
-    ensures { IfOk result (λ _. string_bytes out.new ≡ string_bytes out.old ++ differences_text answered.now) }
+    ensures { Written (differences_text answered.now) out.old result out.new }
 {
     for line in answered {
-        if line.differs() {
-            let Answered {
-                number,
-                answer,
-                stored,
-            } = line;
-            writeln!(out, "line {number}: {answer}, stored {stored}")?;
-        }
+        write_difference(line, out)?;
     }
     Ok(())
+}
+
+fn write_difference(line: &Answered, out: &mut String) -> Result<(), AllocError>
+    ensures { Written (difference_text line.now) out.old result out.new }
+{
+    if !line.differs() {
+        return Ok(());
+    }
+    let mut number = Buffer::new();
+    let number = number.format(line.number);
+    let (answer, stored) = (line.answer.as_str(), line.stored.as_str());
+    push_all(
+        out,
+        &["line ", number, ": ", answer, ", stored ", stored, "\n"],
+    )
 }
 
 fn write_counts(
@@ -56,11 +67,21 @@ fn write_counts(
     differences: usize,
     out: &mut String,
 ) -> Result<(), AllocError>
-    ensures { IfOk result (λ _. string_bytes out.new ≡ string_bytes out.old ++ counts_text scripts lines differences) }
+    ensures { Written (counts_text scripts lines differences) out.old result out.new }
 {
-    writeln!(
+    let (mut first, mut second, mut third) = (Buffer::new(), Buffer::new(), Buffer::new());
+    let (scripts, lines) = (first.format(scripts), second.format(lines));
+    let differences = third.format(differences);
+    push_all(
         out,
-        "{scripts} scripts, {lines} lines, {differences} differences"
+        &[
+            scripts,
+            " scripts, ",
+            lines,
+            " lines, ",
+            differences,
+            " differences\n",
+        ],
     )
 }
 

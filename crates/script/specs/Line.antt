@@ -90,6 +90,10 @@ NoForm line = (f : Plain) → Writes f line → ⊥
 abbrev pub Reading : List ℕ → Option Form → Type 0
 Reading line o = MatchOption o (NoForm line) (λ form. TheForm (plain form) line)
 
+-- the line starts with these bytes
+abbrev pub StartsWith : List ℕ → List ℕ → Type 0
+StartsWith front line = (rest : List ℕ) × (line ≡ front ++ rest)
+
 -- the text is n and then the bracket that ends a line
 abbrev pub Last : ℕ → List ℕ → Type 0
 Last n text = Number 64 text n (codes ")")

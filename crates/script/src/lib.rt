@@ -1,8 +1,8 @@
 // The lines of a test script: one form to a line, one spelling for each form.
 #![tactic(auto)]
 
-ghost use Rattle.std.specs.Prelude.{◌≡◌, ◌++◌, IfOk, codes, MatchOption, ◌≢◌};
-ghost use Rattle.script.specs.Line.{Last, Lists, NoLast, NoList, Reading, letter_of};
+ghost use Rattle.std.specs.Prelude.{◌≡◌, ◌++◌, IfErr, IfOk, codes, MatchOption, ◌≢◌};
+ghost use Rattle.script.specs.Line.{Last, Lists, NoLast, NoList, Reading, StartsWith, letter_of};
 ghost use Rattle.script.specs.Number.{NoNumber, Number, Split};
 
 use post_action::PostAction;
@@ -27,9 +27,10 @@ pub enum Form {
     Remove(u64),
 }
 
-// The form that the line is, or None where it is of no form. No `FromStr`: the files need the heap.
+// The form that the line is, or None where it is of no form. No `FromStr`: the files need the heap, and nothing else does.
 pub fn read_line(heap: Global, line: &[u8]) -> Result<Option<Form>, AllocError>
-    ensures { IfOk result (λ o. Reading line.now o) }
+    ensures reads { IfOk result (λ o. Reading line.now o) }
+    ensures needs { IfErr result (λ _. StartsWith (codes "(W ") line.now) }
 {
     let [b'(', letter, b' ', rest @ ..] = line else {
         return Ok(None);

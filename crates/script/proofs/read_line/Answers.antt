@@ -13,29 +13,29 @@ call_answer : (k : Call) (make : ℕ → Form) → ((n : ℕ) → plain (make n)
 call_answer k make is text None h = call_no_insert k text h
 call_answer k make is text (Some n) q = rw (is n) (the_form _ _ (call_read k text n q))
 
-pub returns-in-E : goal.returns-in-E
-returns-in-E c =
+pub returns-in-E-clause-reads : goal.returns-in-E-clause-reads
+returns-in-E-clause-reads c =
     let line = c.args.line.now in
     let b : line ≡ 40 ∷ (69 ∷ (32 ∷ take (length line - 3) (drop 3 line))) = grind (arith, common_steps) in
     let e : c.map.result ≡ option_map form.Enable c.read_last.result = search rules in
     rw (b, e) (call_answer enable form.Enable (λ n. refl) _ c.read_last.result c.read_last.ensures)
 
-pub returns-in-U : goal.returns-in-U
-returns-in-U c =
+pub returns-in-U-clause-reads : goal.returns-in-U-clause-reads
+returns-in-U-clause-reads c =
     let line = c.args.line.now in
     let b : line ≡ 40 ∷ (85 ∷ (32 ∷ take (length line - 3) (drop 3 line))) = grind (arith, common_steps) in
     let e : c.map-in-U.result ≡ option_map form.Update c.read_last-in-U.result = search rules in
     rw (b, e) (call_answer update form.Update (λ n. refl) _ c.read_last-in-U.result c.read_last-in-U.ensures)
 
-pub returns-in-D : goal.returns-in-D
-returns-in-D c =
+pub returns-in-D-clause-reads : goal.returns-in-D-clause-reads
+returns-in-D-clause-reads c =
     let line = c.args.line.now in
     let b : line ≡ 40 ∷ (68 ∷ (32 ∷ take (length line - 3) (drop 3 line))) = grind (arith, common_steps) in
     let e : c.map-in-D.result ≡ option_map form.Disable c.read_last-in-D.result = search rules in
     rw (b, e) (call_answer disable form.Disable (λ n. refl) _ c.read_last-in-D.result c.read_last-in-D.ensures)
 
-pub returns-in-R : goal.returns-in-R
-returns-in-R c =
+pub returns-in-R-clause-reads : goal.returns-in-R-clause-reads
+returns-in-R-clause-reads c =
     let line = c.args.line.now in
     let b : line ≡ 40 ∷ (82 ∷ (32 ∷ take (length line - 3) (drop 3 line))) = grind (arith, common_steps) in
     let e : c.map-in-R.result ≡ option_map form.Remove c.read_last-in-R.result = search rules in

@@ -10,8 +10,8 @@ plan_of : (line text : List ℕ) → line ≡ codes "(P (" ++ text → (o : Opti
 plan_of line text e None h = no_plan line text e h
 plan_of line text e (Some steps) l = the_plan line text e steps.items l
 
-pub returns : goal.returns
-returns c =
+pub returns-clause-reads : goal.returns-clause-reads
+returns-clause-reads c =
     let line = c.args.line.now in
     let b : line ≡ codes "(P (" ++ take (length line - 4) (drop 4 line) = grind (arith, common_steps) in
     IfOk-weaker c.read_steps.result _ _ (plan_of line _ b) c.read_steps.ensures
