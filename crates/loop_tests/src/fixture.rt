@@ -9,7 +9,7 @@ use poller::{BenchPoller, Interest, Mode, Step};
 use std::alloc::{AllocError, Global};
 use std::process::Abort;
 use std::test::Fail;
-use sys::{SetClock, Setting};
+use sys::{Class, SetClock, Setting};
 use timer::Timer;
 use token::{Error, Token};
 
@@ -19,7 +19,7 @@ fn generic(file: u32, mode: Mode) -> Source {
     Either::Right(Either::Left(Generic::new(file, Interest::READ, mode, Stays)))
 }
 
-fn source(kind: Kind, number: u32) -> Source {
+pub fn source(kind: Kind, number: u32) -> Source {
     match kind {
         Kind::Timer => Either::Left(Timer::from_deadline(u64::from(number), Leaves)),
         Kind::OneShot => generic(number, Mode::OneShot),
@@ -43,17 +43,14 @@ fn accepted(answer: Result<(), Error>) -> Came {
     }
 }
 
-// A source of one token draws the sub-id 0 in each registration.
+// Each registration draws the sub-id 0, and that of a Doorbell 1 besides, for the events of its hook.
 fn event(line: Line) -> Result<Came, &'static str> {
-    let Token {
-        id,
-        version,
-        sub_id: 0,
-    } = Token::from(line.key)
-    else {
+    let token = Token::from(line.key);
+    let drawn = if line.class == Class::Synthetic { 1 } else { 0 };
+    if token.sub_id != drawn {
         return Err("a token that no registration drew");
-    };
-    Ok(Came::Event(line.class, id, version, line.verdict))
+    }
+    Ok(Came::Event(line.class, token.id, token.version, line.verdict))
 }
 
 // The calls look at id and version alone.
@@ -103,7 +100,7 @@ impl Fixture {
     }
 
     fn again(&mut self) -> Result<Came, Fail> {
-        match self.back {
+        match self.back.take() {
             Some(source) => Ok(self.insert(source)),
             None => Err("no source was handed back")?,
         }
@@ -134,6 +131,16 @@ impl Fixture {
     // A dispatch that brings one event at most.
     fn dispatch(&mut self, time: u64, files: &[u32]) -> Result<Came, Fail> {
         self.arrange(time, files, None)?;
+        self.dispatch_as_set()
+    }
+
+    // The same in a setting that was made before.
+    pub fn dispatch_in(&mut self, setting: &mut Setting) -> Result<Came, Fail> {
+        self.event_loop.arrange(setting);
+        self.dispatch_as_set()
+    }
+
+    fn dispatch_as_set(&mut self) -> Result<Came, Fail> {
         if let Err(error) = self.event_loop.dispatch(None) {
             return Ok(refused(error));
         }

@@ -1,15 +1,16 @@
 // Handlers of the tests. They obey the law of their trait, and nothing more is said of them.
 ghost use Rattle.std.proofs.Common.{rules};
 ghost use Rattle.std.specs.Prelude.{◌≡◌};
+ghost use Rattle.rules.specs.Kinds.{Grown};
 ghost use Rattle.post_action.specs.declared.PostAction.TheVariants.{Continue};
 ghost use Rattle.token.specs.Refusal.{done};
 
 use generic::GenericHandler;
-use kinds::Errands;
+use kinds::{Errand, Errands};
 use poller::Readiness;
 use post_action::PostAction;
 use timer::{TimeoutAction, TimerHandler};
-use token::Error;
+use token::{Error, Token};
 
 // Answers each event with Continue.
 #[derive(Clone, Copy)]
@@ -29,16 +30,24 @@ impl GenericHandler for Stays {
     }
 }
 
-// Rings once.
+// No source has this token: the tests use fewer slots.
+const NOBODY: Token = Token {
+    id: 1_024,
+    version: 0,
+    sub_id: 0,
+};
+
+// Rings once, and asks for the remove of nobody.
 #[derive(Clone, Copy)]
 pub struct Leaves;
 
 impl TimerHandler for Leaves {
-    ghost rings = { λ h d es r h' es'. es' ≡ es };
+    ghost rings = { λ h d es r h' es'. Grown es es' };
 
-    ghost ringing = { Prim.search rules };
+    ghost ringing = { λ h d es r h' es' rung. rung };
 
-    fn ring(&mut self, _deadline: u64, _errands: &mut Errands) -> TimeoutAction {
+    fn ring(&mut self, _deadline: u64, errands: &mut Errands) -> TimeoutAction {
+        let _ = errands.push(Errand::Remove(NOBODY));
         TimeoutAction::Drop
     }
 }

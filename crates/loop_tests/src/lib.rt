@@ -1,8 +1,10 @@
-// Tests of the user's calls over the bench poller, with kinds that stand above the loop.
+// Tests of the user's calls, most of them over the bench poller, with kinds that stand above the loop.
 #![tactic(auto)]
 
 #[cfg(test)]
 mod calls;
+#[cfg(test)]
+mod clock;
 #[cfg(test)]
 mod enabling;
 #[cfg(test)]
@@ -15,6 +17,8 @@ mod handlers;
 mod idles;
 #[cfg(test)]
 mod lifecycle;
+#[cfg(test)]
+mod line_poller;
 #[cfg(test)]
 mod memory;
 #[cfg(test)]

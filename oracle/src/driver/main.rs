@@ -3,6 +3,8 @@
 
 mod bench;
 mod clock;
+#[cfg(test)]
+mod differences;
 mod script;
 
 use std::io::{self, BufRead, BufWriter, Write};
