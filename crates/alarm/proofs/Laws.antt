@@ -28,7 +28,7 @@ use Rattle.alarm.specs.declared.alarm.Alarm.{Alarm}
 use Rattle.alarm.specs.declared.alarm.Registration.{Registration}
 use Rattle.alarm.specs.declared.alarm.TimeoutAction.{TimeoutAction}
 use Rattle.alarm.specs.declared.alarm.TimeoutAction.TheVariants.{Drop, ToInstant, ToDuration}
-use Rattle.alarm.specs.Calls.{Awaits, cancel_by, counters_of, drawn, inserted, meaning, register_by, reregister_by, rung_by, set_at, set_to, wheel_after, with_deadline, with_registration}
+use Rattle.alarm.specs.Calls.{cancel_by, counters_of, drawn, inserted, meaning, register_by, reregister_by, rung_by, set_at, set_to, wheel_after, with_deadline, with_registration}
 
 -- only the timers changed
 alarm_reaches : (D : ℕ → Type 0) (s s' : Alarm) (w : World) (t' : Wheel) → Timers D (counters_of s.registration) w.wheel (counters_of s'.registration) t'
@@ -131,30 +131,30 @@ module _ {E : Type 0} (s : Alarm) (t : Token) (es es' : List E) (w : World) (gro
   stays : (deadline : Option ℕ) (r : Outcome PostAction) (xs : List Exchange) → RefusedBy by_event r → All Reads xs → Rings (went xs r (with_deadline s deadline) w)
   stays deadline r xs by a = record { world = refl; asks = a; same = refl; timers = timers_same Event _ w.wheel w.wheel refl; errands = grown; refusals = by }
 
-  sets : (x : Registration) (d next : ℕ) (xs : List Exchange) → Awaits s t x d → All Reads xs → Rings (set_at s x next w xs)
-  sets x d next xs own a =
-      let mine : In x.counter (counters_of s.registration) = subst (λ (o : Option Registration). In x.counter (counters_of o)) (sym own.registered) (inl refl) in
+  sets : (x : Registration) (next : ℕ) (xs : List Exchange) → s.registration ≡ Some x → x.token ≡ t → All Reads xs → Rings (set_at s x next w xs)
+  sets x next xs registered token a =
+      let mine : In x.counter (counters_of s.registration) = subst (λ (o : Option Registration). In x.counter (counters_of o)) (sym registered) (inl refl) in
       reuse_cases x.counter next x.token w.wheel (λ o t'. Rings (set_to s next w xs o t'))
       (stays s.deadline (refusal 16) xs (refl, refl) a)
       (record {
         world = refl;
         asks = a;
         same = refl;
-        timers = reuse_timers Event _ x.counter next x.token w.wheel mine (ap key_of own.token);
+        timers = reuse_timers Event _ x.counter next x.token w.wheel mine (ap key_of token);
         errands = grown;
         refusals = tt;
       })
 
-  rings_on : (x : Registration) (d : ℕ) (action : TimeoutAction) (now : ℕ) → Awaits s t x d → Rings (rung_by s x action now w)
-  rings_on x d Drop now own = stays s.deadline _ [] tt (All-nil Reads)
-  rings_on x d (ToInstant next) now own = sets x d next [] own (All-nil Reads)
-  rings_on x d (ToDuration period) now own =
+  rings_on : (x : Registration) (action : TimeoutAction) (now : ℕ) → s.registration ≡ Some x → x.token ≡ t → Rings (rung_by s x action now w)
+  rings_on x Drop now registered token = stays s.deadline _ [] tt (All-nil Reads)
+  rings_on x (ToInstant next) now registered token = sets x next [] registered token (All-nil Reads)
+  rings_on x (ToDuration period) now registered token =
       let reads = All-cons Reads (read now) [] tt (All-nil Reads) in
-      cond_both (nat_lt (now + period) (2 ^ 64)) _ _ Rings (λ e. sets x d (now + period) (read now ∷ []) own reads) (λ e. stays None _ (read now ∷ []) tt reads)
+      cond_both (nat_lt (now + period) (2 ^ 64)) _ _ Rings (λ e. sets x (now + period) (read now ∷ []) registered token reads) (λ e. stays None _ (read now ∷ []) tt reads)
 
   -- its own event
-  pub rings_lawful : (x : Registration) (d : ℕ) (action : TimeoutAction) (now : ℕ) (c : Went PostAction Alarm) → Awaits s t x d → c ≡ rung_by s x action now w → Rings c
-  rings_lawful x d action now c own e = subst Rings (sym e) (rings_on x d action now own)
+  pub rings_lawful : (x : Registration) (action : TimeoutAction) (now : ℕ) (c : Went PostAction Alarm) → s.registration ≡ Some x → x.token ≡ t → c ≡ rung_by s x action now w → Rings c
+  rings_lawful x action now c registered token e = subst Rings (sym e) (rings_on x action now registered token)
 
   -- any other
   pub stays_lawful : (c : Went PostAction Alarm) → c ≡ went [] (done Continue) s w → Rings c

@@ -3,22 +3,31 @@
 
 use bench::{Bench, perform};
 use script::read_line;
+use std::fmt;
 use std::io::{BufRead, BufReader, BufWriter, Read, Write};
 
-// Answers each line.
+// Answers each line until there is none. All lines are read into one buffer, which `split` would make anew for each; and
+// an answer goes out with its newline in one piece, so that no write ends within a line.
 fn answer_lines<R: Read + Drop, W: Write + Drop>(
     rt: &HostRuntime,
     bench: &mut Bench,
-    input: BufReader<R>,
+    mut input: BufReader<R>,
     output: &mut BufWriter<W>,
 ) -> anyhow::Result<()> {
     let heap = rt.alloc();
+    let mut line = Vec::new(heap);
     let mut out = String::new(heap);
-    for line in input.split(heap, b'\n') {
-        let form = read_line(heap, line?.as_slice())?;
+    for _ in 0..u64::MAX {
+        line.clear();
+        if input.read_until(b'\n', &mut line)? == 0 {
+            break;
+        }
+        let text = line.strip_suffix(b"\n").unwrap_or(&line);
+        let form = read_line(heap, text)?;
         out.clear();
-        perform(bench, form, &mut out)?;
-        writeln!(output, "{out}")?;
+        perform(bench, form, &mut out).map_err(|_| fmt::Error)?;
+        out.push('\n')?;
+        output.write_all(out.as_bytes())?;
     }
     output.flush()?;
     Ok(())

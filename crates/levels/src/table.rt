@@ -43,7 +43,8 @@ impl Levels {
 
     // The key's line.
     pub fn find(&self, key: u64) -> Option<Line>
-        ensures { result ≡ line_of key self.now }
+        ensures is { result ≡ line_of key self.now }
+        ensures few { length self.now ≤ 256 }
     {
         self.lines
             .items
@@ -54,7 +55,8 @@ impl Levels {
 
     // Whether a line for a new key would find no room.
     pub fn is_full_for(&self, key: u64) -> bool
-        ensures { result ≡ full_for key self.now }
+        ensures is { result ≡ full_for key self.now }
+        ensures few { length self.now ≤ 256 }
     {
         self.lines.is_full() && self.find(key).is_none()
     }
@@ -63,6 +65,7 @@ impl Levels {
     pub fn drop_lines(&mut self, file: u32, key: Option<u64>)
         ensures is { self.new ≡ dropped file key self.old }
         ensures few { length self.old ≤ 256 }
+        ensures still_few { length self.new ≤ 256 }
     {
         self.lines
             .items
@@ -73,7 +76,8 @@ impl Levels {
     #[tactic(auto, using(crate::proofs::Rooms::room))]
     pub fn enter(&mut self, line: Line, mode: Mode)
         requires { mode ≡ Level → full_for line.key self.old ≡ false }
-        ensures { self.new ≡ entered line mode self.old }
+        ensures is { self.new ≡ entered line mode self.old }
+        ensures few { length self.new ≤ 256 }
     {
         self.drop_lines(line.file, Some(line.key));
         if mode == Mode::Level {

@@ -1,5 +1,5 @@
 // The sources that want hooks, by token.
-ghost use Rattle.std.specs.Prelude.{◌≡◌, [], length, IfOk, nat_le};
+ghost use Rattle.std.specs.Prelude.{◌≡◌, ◌≤◌, [], length, IfOk, nat_le};
 ghost use Rattle.token.specs.Refusal.{outcome};
 ghost use Rattle.list.specs.Entries.{enter_of, left};
 
@@ -32,7 +32,8 @@ impl Lifecycle {
     }
 
     pub fn as_slice(&self) -> &[Token]
-        ensures { result.now ≡ self.now }
+        ensures is { result.now ≡ self.now }
+        ensures few { length self.now ≤ 128 }
     {
         self.entries.items.as_slice()
     }

@@ -36,6 +36,11 @@ place_at d es i a h =
 pub written : (f : ℕ) (g : Entry → Entry) (d : Entry) (es : List Entry) (i : ℕ) → Distinct es → Some i ≡ place_of f es → set es i (g (get_or es i d)) ≡ changed f g es
 written f g d es i a p = ext_get_or d _ _ (grind (arith, common_steps)) (λ k h. grind (arith, common_steps, found_file f d es i p, a k i d, a i k d))
 
+-- where the file is not held, a change of its entry changes nothing
+pub changed_none : (f : ℕ) (g : Entry → Entry) (es : List Entry) → holds f es ≡ false → changed f g es ≡ es
+changed_none f g [] h = refl
+changed_none f g (e ∷ es) h = grind (arith, common_steps, changed_none f g es)
+
 removed_none : (f : ℕ) (es : List Entry) → All (λ (e : Entry). e.file ≢ f) es → removed f es ≡ es
 removed_none f [] o = refl
 removed_none f (e ∷ es) o = grind (arith, common_steps, All-head (λ (e : Entry). e.file ≢ f) e es o, removed_none f es (All-tail (λ (e : Entry). e.file ≢ f) e es o))

@@ -22,14 +22,14 @@ use Rattle.poller.specs.Register.{entry_of}
 use Rattle.poller.specs.Reports.{ripe, event_of, events_of}
 
 -- the file may be reported
-abbrev May : List Entry → ℕ → Type 0
+abbrev pub May : List Entry → ℕ → Type 0
 May es f = ripe (entry_of f es) ≡ true
 
 -- files that are reported: no file twice, and each may be
-abbrev Good : List Entry → List ℕ → Type 0
+abbrev pub Good : List Entry → List ℕ → Type 0
 Good es fs = IsDistinct nat_eq fs × All (May es) fs
 
-tells : (es : List Entry) (fs : List ℕ) → All (May es) fs → AllZip (Tells es) fs (events_of es fs)
+pub tells : (es : List Entry) (fs : List ℕ) → All (May es) fs → AllZip (Tells es) fs (events_of es fs)
 tells es [] a = tt
 tells es (f ∷ fs) a = at (entry_of f es) refl (All-head (May es) f fs a) (tells es fs (All-tail (May es) f fs a))
   where
@@ -39,7 +39,7 @@ tells es (f ∷ fs) a = at (entry_of f es) refl (All-head (May es) f fs a) (tell
         let w = and_parts e.armed e.interest.readable r in
         (record { entry = e; stands = q; armed = w.0; key = refl; reads = λ t. w.1; writes = λ t. absurd (false≢true t) }, rest)
 
-reports : (es : List Entry) (fs : List ℕ) → Good es fs → Reported es (events_of es fs) (map (told fs) es)
+pub reports : (es : List Entry) (fs : List ℕ) → Good es fs → Reported es (events_of es fs) (map (told fs) es)
 reports es fs g = record { files = fs; apart = g.0; tell = tells es fs g.1; after = refl }
 
 -- a wait of the bench

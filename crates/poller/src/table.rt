@@ -1,5 +1,5 @@
 // A poller's entries, and the calls that change them. Only `new` allocates.
-ghost use Rattle.std.specs.Prelude.{◌≡◌, ℕ, ◌+◌, ◌<◌, [], ◌++◌, IfSome, IfOk, Some, vec_len};
+ghost use Rattle.std.specs.Prelude.{◌≡◌, ℕ, ◌+◌, ◌<◌, min, [], ◌++◌, IfSome, IfOk, Some, vec_len};
 ghost use Rattle.bounded.specs.Room.{HasRoom};
 ghost use Rattle.poller.specs.Register.{Distinct};
 
@@ -43,14 +43,26 @@ impl<const N: usize> Table<N> {
     }
 
     // Past its checks the call ends as `fate` says, here and below; an Err has the poller's own code.
-    #[tactic(auto, using(crate::proofs::Outcomes::adding))]
     pub fn add(&mut self, request: Request, fate: Result<(), u32>) -> Result<(), Error>
         ensures { (outcome result, entries_of self.new) ≡ add_of N (entries_of self.old) request fate }
+    {
+        self.add_within(N, request, fate)
+    }
+
+    // For a poller whose limit is known only when it runs.
+    #[tactic(auto, using(crate::proofs::Outcomes::adding))]
+    pub fn add_within(
+        &mut self,
+        most: usize,
+        request: Request,
+        fate: Result<(), u32>,
+    ) -> Result<(), Error>
+        ensures { (outcome result, entries_of self.new) ≡ add_of (min most N) (entries_of self.old) request fate }
     {
         if self.find(request.file).is_some() {
             return Err(Error::Exists);
         }
-        if self.entries.is_full() {
+        if self.entries.is_full() || self.entries.items.len() >= most {
             return Err(Error::PollerFull);
         }
         fate.map_err(Error::PollerFailed)?;

@@ -7,3 +7,5 @@ mod bench;
 mod lines;
 #[cfg(test)]
 mod request;
+#[cfg(test)]
+mod table;

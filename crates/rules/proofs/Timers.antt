@@ -57,7 +57,7 @@ pub among_in : (k : ℕ) (cs : List ℕ) → among k cs ≡ true → In k cs
 among_in k [] e = grind (arith, common_steps)
 among_in k (c ∷ cs) e = grind (arith, common_steps, among_in k cs)
 
-foreign_later : (cs cs' : List ℕ) (n n' : ℕ) → n ≤ n' → ((k : ℕ) → In k cs' → In k cs ⊎ ((n ≤ k) × (k < n')))
+pub foreign_later : (cs cs' : List ℕ) (n n' : ℕ) → n ≤ n' → ((k : ℕ) → In k cs' → In k cs ⊎ ((n ≤ k) × (k < n')))
     → (x : TimeoutData) → foreign cs n x ≡ true → foreign cs' n' x ≡ true
 foreign_later cs cs' n n' l joins x e = grind (arith, common_steps, in_among x.counter cs, among_in x.counter cs', joins x.counter)
 

@@ -1,18 +1,15 @@
 -- Lemmas on numbers as text.
-use Rattle.std.proofs.Common.{◌≡◌, ℕ, ◌^◌, ◌<◌, ◌≤◌, List, [], ◌∷◌, ◌++◌, length, get_or, decimal, sym, refl, ap, ◌∙◌, subst, ⊎_elim, Result, Ok, Err, MatchOption, arith}
-use Rattle.std.specs.Result.{result_ok}
-use Rattle.std.specs.Str.{IsUtf8}
-use Rattle.std.proofs.lemmas.Str.{IsUtf8-from_ascii}
-use Rattle.std.specs.Str.Parse.{ParsesUnsigned, digits_value}
-use Rattle.std.proofs.lemmas.Str.Parse.{IsNumeralModel, numerals_by_value, tells_by_index, parse_digits}
+use Rattle.std.proofs.Common.{◌≡◌, ℕ, ◌+◌, ◌-◌, ◌*◌, ◌^◌, ◌<◌, ◌≤◌, ◌⊎◌, List, [], ◌∷◌, ◌++◌, length, get_or, decimal, sym, refl, ap, ◌∙◌, subst, ⊎_elim, arith, rules}
+use Rattle.std.specs.List.{fold}
+use Rattle.std.proofs.lemmas.Str.Parse.{IsNumeralModel, numerals_by_fold, tells_by_index}
 use Rattle.std.proofs.lemmas.List.{length-append}
-use Rattle.std.proofs.lemmas.Fmt.{IsAscii-from_digits, digits_decimal, digits_value-decimal, decimal-digits_value, decimal_nonempty, first_decimal, decimal_digit, decimal_injective}
+use Rattle.std.proofs.lemmas.Fmt.{digits_decimal, digits_value-decimal, decimal-digits_value, decimal_nonempty, first_decimal, decimal_digit, decimal_injective}
 use Rattle.std.proofs.lemmas.Bool.{cases_lt}
-use Rattle.script.specs.Number.{Digits, Stops, Split, Number, NoNumber}
+use Rattle.script.specs.Number.{Digits, Stops, Split, Number, NoNumber, value}
 
--- `Digits` is the library's word
-pub own : IsNumeralModel Digits (digits_value 10)
-own = numerals_by_value Digits tells_by_index
+-- `Digits` and `value` are the library's words
+pub own : IsNumeralModel Digits value
+own = numerals_by_fold Digits tells_by_index (fold (λ n c. n * 10 + (c - 48))) (search rules)
 
 -- such a text splits in one way
 pub cut : (ds es r s : List ℕ) → Digits ds → Digits es → Stops r → Stops s → ds ++ r ≡ es ++ s → (ds ≡ es) × (r ≡ s)
@@ -31,28 +28,32 @@ pub split_number : (text ds rest : List ℕ) → Split text ds rest → (n : ℕ
 split_number text ds rest p n r q =
     cut (decimal n) ds r rest (digits_decimal own n q.fits) p.digits q.stops p.stops (sym q.reads ∙ p.whole)
 
--- digits with a zero in front of others are no number
-pub refused_zero : (text ds rest : List ℕ) → Split text ds rest → 1 < length ds → get_or ds 0 0 ≡ 48 → NoNumber 64 text
-refused_zero text ds rest p l lead n r q =
+-- no digit, or a zero in front of others, is no number
+pub refused_form : (text ds rest : List ℕ) → Split text ds rest → (length ds < 1) ⊎ ((1 < length ds) × (get_or ds 0 0 ≡ 48)) → NoNumber 64 text
+refused_form text ds rest p w n r q =
     let e : decimal n ≡ ds = (split_number text ds rest p n r q).0 in
     ⊎_elim
-    (λ (z : 0 < n). omega (arith, first_decimal n z q.fits, ap (λ xs. get_or xs 0 0) e))
-    (λ (z : n ≤ 0). let small : n < 10 = omega arith in omega (arith, ap length (sym (decimal_digit n small) ∙ e)))
-    (cases_lt 0 n)
+    (λ (l : length ds < 1). omega (arith, decimal_nonempty n q.fits, ap length e))
+    (λ (l : (1 < length ds) × (get_or ds 0 0 ≡ 48)).
+    ⊎_elim
+    (λ (z : 0 < n). omega (arith, first_decimal n z q.fits, ap (λ xs. get_or xs 0 0) e, l.1))
+    (λ (z : n ≤ 0). let small : n < 10 = omega arith in omega (arith, ap length (sym (decimal_digit n small) ∙ e), l.0))
+    (cases_lt 0 n))
+    w
 
-pub digits_are_text : (ds : List ℕ) → Digits ds → IsUtf8 ds
-digits_are_text ds p = IsUtf8-from_ascii ds (IsAscii-from_digits ds (own.to ds p))
-
--- the number that `parse` answers of digits with no zero in front of others
-pub parsed : {E : Type 0} (text ds rest : List ℕ) → Split text ds rest → (get_or ds 0 0 ≡ 48 → length ds ≤ 1) → (bs : List ℕ) → bs ≡ ds → (r : Result ℕ E) → ParsesUnsigned 64 10 bs r → MatchOption (result_ok r) (NoNumber 64 text) (λ n. Number 64 text n rest)
-parsed {E} text ds rest p lead bs is (Ok n) h =
-    let o = parse_digits own {E = E} 64 ds (Ok n) (rw is at h) p.digits in
-    let e : decimal n ≡ ds = ap decimal o.1 ∙ decimal-digits_value own ds p.digits o.0.0 (λ z. omega (arith, lead z, o.0.0)) o.0.1 in
-    record { reads = rw e p.whole; fits = rw o.1 o.0.1; stops = p.stops }
-parsed {E} text ds rest p lead bs is (Err x) h = λ n r q.
+-- digits that do not fit 64 bits are no number
+pub refused_large : (text ds rest : List ℕ) → Split text ds rest → (value ds < 2 ^ 64 → ⊥) → NoNumber 64 text
+refused_large text ds rest p large n r q =
     let e : decimal n ≡ ds = (split_number text ds rest p n r q).0 in
-    let v : digits_value 10 ds ≡ n = ap (digits_value 10) (sym e) ∙ digits_value-decimal own n q.fits in
-    parse_digits own {E = E} 64 ds (Err x) (rw is at h) p.digits (omega (arith, ap length e, decimal_nonempty n q.fits), rw v q.fits)
+    let v : value (decimal n) ≡ n = digits_value-decimal own n q.fits in
+    large (rw (← e, v) q.fits)
+
+-- the number that other digits write
+pub number_read : (text ds rest : List ℕ) → Split text ds rest → (n : ℕ) → n ≡ value ds → value ds < 2 ^ 64 → 0 < length ds → (get_or ds 0 0 ≡ 48 → length ds ≡ 1) → Number 64 text n rest
+number_read text ds rest p n is f some lead =
+    let e : decimal (value ds) ≡ ds = decimal-digits_value own ds p.digits some lead f in
+    let d : decimal n ≡ ds = ap decimal is ∙ e in
+    record { reads = rw d p.whole; fits = rw is f; stops = p.stops }
 
 -- a number of 32 bits has at most 64
 pub wider : (text : List ℕ) (n : ℕ) (rest : List ℕ) → Number 32 text n rest → Number 64 text n rest

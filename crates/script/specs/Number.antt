@@ -1,5 +1,5 @@
 -- A number as text, and the text that begins with one.
-use Rattle.std.specs.Prelude.{◌≡◌, ℕ, ◌^◌, ◌<◌, ◌≤◌, List, [], ◌∷◌, ◌++◌, length, decimal, slice_index}
+use Rattle.std.specs.Prelude.{◌≡◌, ℕ, ◌+◌, ◌-◌, ◌*◌, ◌^◌, ◌<◌, ◌≤◌, List, [], ◌∷◌, ◌++◌, length, decimal, fold, slice_index}
 
 abbrev pub Digit : ℕ → Type 0
 Digit c = (48 ≤ c) × (c ≤ 57)
@@ -12,6 +12,10 @@ Digits ds = (k : ℕ) → k < length ds → Digit (slice_index ds k)
 abbrev pub Stops : List ℕ → Type 0
 Stops [] = Unit {0}
 Stops (c ∷ cs) = Digit c → ⊥
+
+-- the number that digits write
+abbrev pub value : List ℕ → ℕ
+value = fold (λ n c. n * 10 + (c - 48)) 0
 
 -- the text is digits, and then the rest, which does not go on with one
 pub record Split (text ds rest : List ℕ) : Type 0 where

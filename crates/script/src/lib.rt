@@ -1,9 +1,9 @@
 // The lines of a test script: one form to a line, one spelling for each form.
 #![tactic(auto)]
 
-ghost use Rattle.std.specs.Prelude.{◌≡◌, ◌++◌, IfErr, IfOk, codes, MatchOption, ◌≢◌};
+ghost use Rattle.std.specs.Prelude.{◌≡◌, ◌^◌, ◌<◌, ◌++◌, IfErr, IfOk, SomeIff, codes, MatchOption, ◌≢◌};
 ghost use Rattle.script.specs.Line.{Last, Lists, NoLast, NoList, Reading, StartsWith, letter_of};
-ghost use Rattle.script.specs.Number.{NoNumber, Number, Split};
+ghost use Rattle.script.specs.Number.{NoNumber, Number, Split, value};
 
 use post_action::PostAction;
 use std::alloc::{AllocError, Global};
@@ -134,11 +134,22 @@ pub fn read_number(text: &[u8]) -> Option<(u64, &[u8])>
     ensures { MatchOption result (NoNumber 64 text.now) (λ p. Number 64 text.now p.0 p.1.now) }
 {
     let (digits, rest) = split_digits(text);
-    if let [b'0', _, ..] = digits {
-        return None;
+    match digits {
+        [] | [b'0', _, ..] => None,
+        _ => Some((number_of(digits)?, rest)),
     }
-    let number = str::from_utf8(digits).ok()?.parse().ok()?;
-    Some((number, rest))
+}
+
+// The number that the digits write, where it fits 64 bits. No `parse`: it reads a `str`, and the bytes would be passed
+// over once more to make one.
+fn number_of(digits: &[u8]) -> Option<u64>
+    ensures { SomeIff result (value digits.now < 2 ^ 64) (value digits.now) }
+{
+    digits.iter().try_fold(0u64, |number, digit| {
+        number
+            .checked_mul(10)?
+            .checked_add(u64::from(digit.saturating_sub(b'0')))
+    })
 }
 
 // The number that ends a line: the text is the number and the closing bracket.

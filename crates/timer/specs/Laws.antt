@@ -21,7 +21,7 @@ module _ {H : Type 0} (rings : H → ℕ → List Errand → TimeoutAction → H
   pub processes_lawful : Rung rings s t es w xs r s' w' es' → Processing (meaning s.alarm) w t es xs r (meaning s'.alarm) w' es'
   processes_lawful (inl o) =
       let grown = law s.handler o.deadline es o.action s'.handler es' o.rung in
-      rings_lawful s.alarm t es es' w grown o.registration o.deadline o.action o.now (went xs r s'.alarm w') o.awaited o.is
+      rings_lawful s.alarm t es es' w grown o.registration o.action o.now (went xs r s'.alarm w') o.awaited.registered o.awaited.token o.is
   processes_lawful (inr o) =
       let grown : Grown es es' = ([], o.errands ∙ sym (append-nil es)) in
       stays_lawful s.alarm t es es' w grown (went xs r s'.alarm w') (ap (λ (c : Went PostAction (Timer H)). went c.exchanges c.answer c.source.alarm c.world) o.is)

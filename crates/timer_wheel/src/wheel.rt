@@ -20,6 +20,7 @@ pub struct TimerWheel {
     // the counter of the next insertion
     pub(crate) counter: u32,
     ghost rising: { Rising entries.items.items },
+    ghost small: { counter ≤ 4294967295 },
 }
 
 impl TimerWheel {

@@ -1,5 +1,5 @@
 // Draws the tokens of one registration.
-ghost use Rattle.std.specs.Prelude.{◌≡◌};
+ghost use Rattle.std.specs.Prelude.{◌≡◌, ◌≤◌};
 ghost use Rattle.token.specs.Drawing.{draw_of};
 ghost use Rattle.token.specs.Key.{own_source};
 ghost use Rattle.token.specs.Refusal.{outcome};
@@ -10,7 +10,7 @@ use std::marker::Model;
 
 #[derive(Drop)]
 pub struct TokenFactory {
-    pub(crate) next_token: Token,
+    pub next_token: Token,
 }
 
 // A factory is the token that it draws next.
@@ -33,7 +33,8 @@ impl TokenFactory {
     }
 
     pub fn token(&mut self) -> Result<Token, Error>
-        ensures { (outcome result, self.new) ≡ draw_of self.old }
+        ensures is { (outcome result, self.new) ≡ draw_of self.old }
+        ensures few { self.old.sub_id ≤ 65535 }
     {
         let token = self.next_token;
         if token.sub_id == 65_535 {

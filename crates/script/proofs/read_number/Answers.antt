@@ -1,23 +1,14 @@
-use Rattle.std.proofs.Common.{sym, ◌∙◌, rules}
-use Rattle.std.proofs.lemmas.Option.{MatchOption-at_some, MatchOption-at_none}
-use Rattle.script.proofs.Reading.{refused_zero, digits_are_text, parsed}
+use Rattle.std.proofs.Common.{rules}
+use Rattle.script.proofs.Reading.{refused_form, refused_large, number_read}
 use Rattle.script.proofs.read_number.Goals as goal
 
-pub returns-in-48 : goal.returns-in-48
-returns-in-48 c = refused_zero _ _ _ c.split_digits.ensures (search rules) (search rules)
+pub returns-in_err-number_of-in_default : goal.returns-in_err-number_of-in_default
+returns-in_err-number_of-in_default c =
+    rw c.from_residual.ensures (refused_large _ _ _ c.split_digits.ensures c.in_err-number_of-in_default.ensures)
 
-pub returns-in_err-ok : goal.returns-in_err-ok
-returns-in_err-ok c =
-    let t = digits_are_text _ c.split_digits.ensures.digits in
-    absurd (search rules)
+pub returns-in_ok-number_of-in_default : goal.returns-in_ok-number_of-in_default
+returns-in_ok-number_of-in_default c =
+    number_read _ _ _ c.split_digits.ensures _ c.in_ok-number_of-in_default.ensures.1 c.in_ok-number_of-in_default.ensures.0 (search rules) (search rules)
 
-pub returns-in_err-number : goal.returns-in_err-number
-returns-in_err-number c =
-    rw c.from_residual-in_err-number.ensures
-    (MatchOption-at_none _ _ (sym c.ok-2.ensures.value ∙ c.in_err-number.was)
-    (parsed c.args.text.now _ _ c.split_digits.ensures (search rules) c.in_ok-ok.field-0.now (search rules) _ (search rules)))
-
-pub returns : goal.returns
-returns c =
-    MatchOption-at_some _ _ _ (sym c.ok-2.ensures.value ∙ c.in_ok-number.was)
-    (parsed c.args.text.now _ _ c.split_digits.ensures (search rules) c.in_ok-ok.field-0.now (search rules) _ (search rules))
+pub returns-in-empty : goal.returns-in-empty
+returns-in-empty c = refused_form _ _ _ c.split_digits.ensures (search rules)

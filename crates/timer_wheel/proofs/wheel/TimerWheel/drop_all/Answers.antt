@@ -17,4 +17,4 @@ pub invariant_of-self : goal.invariant_of-self
 invariant_of-self c =
     let was = c.args.self.now in
     let rising = IsNonDecreasingBy-filter (λ (y : TimeoutData). y.deadline) (stays c.args.counter) (vec_items was.entries.items) was.rising in
-    ((omega arith, (omega arith, tt)), (subst Rising (sym (kept c)) rising, tt))
+    ((omega arith, (omega arith, tt)), (subst Rising (sym (kept c)) rising, (was.small, tt)))

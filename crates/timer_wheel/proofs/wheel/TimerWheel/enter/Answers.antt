@@ -16,7 +16,7 @@ taken c =
 pub invariant_of-self : goal.invariant_of-self
 invariant_of-self c =
     let was = c.args.self.now in
-    ((omega arith, (grind arith, tt)), ((taken c).rising, tt))
+    ((omega arith, (grind arith, tt)), ((taken c).rising, (was.small, tt)))
 
 pub returns-clause-items : goal.returns-clause-items
 returns-clause-items c = (taken c.before).is

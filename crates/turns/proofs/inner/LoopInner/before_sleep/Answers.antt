@@ -18,7 +18,7 @@ pub ask-requires-clause-fits : goal.ask-requires-clause-fits
 ask-requires-clause-fits g c =
     let items = c.as_slice-token-items.result.now in
     let token = slice_index_or items c.loop-token.token-index (record { id = 0; version = 0; sub_id = 0 }) in
-    c.loop-token.invariant.1 token ∙ c.args.self.now.listed token (subst (In token) c.as_slice-token-items.ensures (in_at items c.loop-token.token-index _ c.loop-token-test.true))
+    c.loop-token.invariant.1 token ∙ c.args.self.now.listed token (subst (In token) c.as_slice-token-items.ensures.is (in_at items c.loop-token.token-index _ c.loop-token-test.true))
 
 pub returns-then-is_full-clause-is : goal.returns-then-is_full-clause-is
 returns-then-is_full-clause-is g c =
@@ -30,7 +30,7 @@ returns-then-is_full-clause-is g c =
     let o = hooked_by (refusal 19) xs q in
     let full : nat_le 128 (length q) ≡ true = grind (arith, common_steps) in
     let stops : Takes kind (asks_hooks (drop c.loop-token.token-index items) xs q) [] o = rw split (rw full (refl, refl)) in
-    subst (λ ts. Takes kind (asks_hooks ts c.args.self.now.handle.sources c.args.queue.now.items.items) [] o) c.as_slice-token-items.ensures (c.loop-token.invariant.2 o stops)
+    subst (λ ts. Takes kind (asks_hooks ts c.args.self.now.handle.sources c.args.queue.now.items.items) [] o) c.as_slice-token-items.ensures.is (c.loop-token.invariant.2 o stops)
 
 pub returns-in_err-answer-clause-is : goal.returns-in_err-answer-clause-is
 returns-in_err-answer-clause-is g c =
@@ -49,7 +49,7 @@ returns-in_err-answer-clause-is g c =
     let refuses : ◌≡◌ {A = Outcome (Option (Readiness × Token))} (outcome c.ask.result) (refused (number_of fault) (code_of fault)) = grind (arith, common_steps) in
     let stops : Takes kind (queued (outcome c.ask.result) (placed xs token.id (Occupied a.1)) q (asks_hooks later)) [] o = rw refuses (refl, grind (arith, common_steps)) in
     let rest : Takes kind (asks_hooks (drop c.loop-token.token-index items) xs q) [] o = rw split (one_asked kind token later xs q a.0 a.1 (outcome c.ask.result) [] o room a.2 asked stops) in
-    subst (λ ts. Takes kind (asks_hooks ts c.args.self.now.handle.sources c.args.queue.now.items.items) [] o) c.as_slice-token-items.ensures (c.loop-token.invariant.2 o rest)
+    subst (λ ts. Takes kind (asks_hooks ts c.args.self.now.handle.sources c.args.queue.now.items.items) [] o) c.as_slice-token-items.ensures.is (c.loop-token.invariant.2 o rest)
 
 pub loop-token-preserved : goal.loop-token-preserved
 loop-token-preserved g c =
