@@ -6,8 +6,8 @@ use script::read_line;
 use std::fmt;
 use std::io::{BufRead, BufReader, BufWriter, Read, Write};
 
-// Answers each line until there is none. All lines are read into one buffer, which `split` would make anew for each; and
-// an answer goes out with its newline in one piece, so that no write ends within a line.
+// Answers each line until there is none. All lines are read into one buffer, which `split` would make anew for each, and
+// an answer goes out with its newline in one piece.
 fn answer_lines<R: Read + Drop, W: Write + Drop>(
     rt: &HostRuntime,
     bench: &mut Bench,
@@ -25,6 +25,7 @@ fn answer_lines<R: Read + Drop, W: Write + Drop>(
         let text = line.strip_suffix(b"\n").unwrap_or(&line);
         let form = read_line(heap, text)?;
         out.clear();
+        // want of memory ends the program as a `write!` without room would
         perform(bench, form, &mut out).map_err(|_| fmt::Error)?;
         out.push('\n')?;
         output.write_all(out.as_bytes())?;
